@@ -1,0 +1,4 @@
+pub mod Kinds
+pub mod Forms
+pub mod Refusals
+pub mod Syntax
