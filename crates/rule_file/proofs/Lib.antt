@@ -1,0 +1,9 @@
+pub mod Marks
+pub mod Decode
+pub mod Pieces
+pub mod Questions
+pub mod Writes
+pub mod TypeRecords
+pub mod NodeRecords
+pub mod Rules
+pub mod Meaning

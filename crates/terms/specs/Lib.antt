@@ -1,0 +1,3 @@
+pub mod Ranges
+pub mod Scan
+pub mod Whole
