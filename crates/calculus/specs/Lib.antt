@@ -2,3 +2,12 @@ pub mod Kinds
 pub mod Forms
 pub mod Refusals
 pub mod Syntax
+pub mod Tables
+pub mod Meanings
+pub mod Typing
+pub mod Steps
+pub mod Infer
+pub mod Next
+pub mod Runs
+pub mod Safety
+pub mod Examples

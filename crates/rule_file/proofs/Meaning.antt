@@ -26,7 +26,7 @@ use Rattle.terms.specs.Scan.{fault}
 use Rattle.terms.specs.Whole.{Begins, FirstFault}
 use Rattle.terms.specs.Whole
 use Rattle.terms.proofs.Fault.{judged}
-use Rattle.types.specs.Tables.{given-entries, LaidDown, TableJudged}
+use Rattle.calculus.specs.Tables.{given-entries, LaidDown, TableJudged}
 use Rattle.types.proofs.Laid.{laid-given, laid-front}
 use Rattle.rule_file.specs.declared.load.Loaded.{Loaded}
 use Rattle.rule_file.specs.Files.{Rule, file-of, Bytes}

@@ -15,7 +15,7 @@ use Rattle.calculus.specs.declared.entry.Entry.{Entry}
 use Rattle.calculus.specs.declared.refusal.Question.{Question}
 use Rattle.calculus.specs.declared.refusal.Question.the-variants.{TermEnded}
 use Rattle.calculus.specs.Kinds.{arity}
-use Rattle.types.specs.Tables.{given-entries}
+use Rattle.calculus.specs.Tables.{given-entries}
 use Rattle.rule_file.specs.Records.{kind-in, entry-of}
 use Rattle.rule_file.specs.Loading.{or-else, type-question, type-questions, node-question, node-questions}
 

@@ -22,7 +22,7 @@ use Rattle.terms.specs.Scan.{fault}
 use Rattle.terms.specs.Whole.{OneTerm}
 use Rattle.terms.proofs.Fault.{judged, fault-of-term}
 use Rattle.terms.proofs.Places.{some-none}
-use Rattle.types.specs.Tables.{given-entries, LaidDown}
+use Rattle.calculus.specs.Tables.{given-entries, LaidDown}
 use Rattle.types.proofs.Laid.{laid-given}
 use Rattle.rule_file.specs.Files.{Rule, low-high, head-bytes, entry-bytes, node-bytes, file-of, Bytes}
 use Rattle.rule_file.specs.Records.{sort-by-mark, is-head, first-number, second-number, entry-of, node-of}

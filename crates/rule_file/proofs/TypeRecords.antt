@@ -17,7 +17,7 @@ use Rattle.calculus.specs.declared.entry.Entry.{Entry}
 use Rattle.calculus.specs.declared.refusal.Question.{Question}
 use Rattle.calculus.specs.declared.refusal.Question.the-variants.{SectionMark, NumberRange, TypeNew}
 use Rattle.calculus.specs.Forms.{joins, empty}
-use Rattle.types.specs.Tables.{given-entries, same-entry, occurs, laid, LaidDown}
+use Rattle.calculus.specs.Tables.{given-entries, same-entry, occurs, laid, LaidDown}
 use Rattle.types.proofs.Laid.{laid-more, laid-last, laid-front, laid-given}
 use Rattle.rule_file.specs.Files.{entry-bytes}
 use Rattle.rule_file.specs.Records.{sort-by-mark, is-type, first-number, second-number, form-in, entry-of}

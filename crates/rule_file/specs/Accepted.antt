@@ -24,7 +24,7 @@ use Rattle.calculus.specs.declared.refusal.Refusal.{Refusal}
 use Rattle.calculus.specs.Kinds.{blank}
 use Rattle.calculus.specs.Forms.{empty}
 use Rattle.terms.specs.Whole.{Begins, FirstFault}
-use Rattle.types.specs.Tables.{TableJudged}
+use Rattle.calculus.specs.Tables.{TableJudged}
 use Rattle.rule_file.specs.declared.load.Loaded.{Loaded}
 use Rattle.rule_file.specs.Records.{second-number}
 use Rattle.rule_file.specs.Files.{Rule, file-of}

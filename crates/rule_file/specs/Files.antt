@@ -14,7 +14,7 @@ use Rattle.calculus.specs.declared.node.Node.{Node}
 use Rattle.calculus.specs.Kinds.{kind-mark}
 use Rattle.calculus.specs.Forms.{form-mark}
 use Rattle.terms.specs.Whole.{OneTerm}
-use Rattle.types.specs.Tables.{LaidDown}
+use Rattle.calculus.specs.Tables.{LaidDown}
 
 pub record Rule (es : List Entry) (ns : List Node) : Type 0 where
   pub table : LaidDown es

@@ -36,7 +36,7 @@ use Rattle.calculus.specs.declared.refusal.Refusal.{Refusal}
 use Rattle.calculus.specs.Kinds.{arity, blank}
 use Rattle.calculus.specs.Forms.{empty}
 use Rattle.terms.specs.Ranges.{in-range}
-use Rattle.types.specs.Tables.{given-entries, occurs}
+use Rattle.calculus.specs.Tables.{given-entries, occurs}
 use Rattle.rule_file.specs.declared.load.Loaded.{Loaded}
 use Rattle.rule_file.specs.Records.{sort-by-mark, is-head, is-type, is-node, first-number, second-number, kind-in, entry-of, node-of}
 

@@ -18,7 +18,7 @@ use Rattle.calculus.specs.declared.refusal.Question.{Question}
 use Rattle.calculus.specs.declared.refusal.Question.the-variants.{FileLength, FileHead, FileRecords, TableRoom, TermUnended, SectionMark, NumberRange, TypeNew, TermEnded, Counts, EntryLaid, OneTerm, ByteRoom}
 use Rattle.calculus.specs.declared.refusal.Refusal.{Refusal}
 use Rattle.terms.specs.Whole
-use Rattle.types.specs.Tables.{LaidDown, TableJudged}
+use Rattle.calculus.specs.Tables.{LaidDown, TableJudged}
 use Rattle.rule_file.specs.Files.{Rule, file-of}
 use Rattle.rule_file.specs.Loading.{in-file}
 

@@ -7,7 +7,7 @@ ghost use Rattle.std.specs.Results.{Cases};
 ghost use Rattle.std.specs.declared.option.Option.the-variants.{Some, None};
 ghost use Rattle.calculus.specs.Forms.{empty};
 ghost use Rattle.calculus.specs.Kinds.{blank};
-ghost use Rattle.types.specs.Tables.{given-entries};
+ghost use Rattle.calculus.specs.Tables.{given-entries};
 ghost use Rattle.rule_file.specs.Records.{entry-of, node-of};
 ghost use Rattle.rule_file.specs.Accepted.{LoadedRule, RefusedAt, WritesBack};
 ghost use Rattle.rule_file.specs.Loading.{head-fits, head-question, HeadOf, type-question, type-questions, node-question, node-questions, type-records, node-records, body-question, entries-in, filled, in-file, LoadCall};

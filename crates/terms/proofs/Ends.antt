@@ -18,7 +18,8 @@ use Rattle.calculus.specs.Syntax.{Term, onto, size}
 use Rattle.terms.specs.Scan.{further, shift, after}
 use Rattle.terms.specs.Whole.{EndsAt}
 use Rattle.terms.proofs.Places.{some-none, further-some, shift-some, shift-zero, further-shift, shift-further}
-use Rattle.terms.proofs.Reading.{walk, drop-read}
+use Rattle.calculus.proofs.Reading.{walk}
+use Rattle.terms.proofs.Places.{drop-read}
 
 pub after-onto : (t : Term) (p : ℕ) (ns : List Node) → after (suc p) (onto t ns) ≡ shift (size t) (after p ns)
 after-onto t p ns =

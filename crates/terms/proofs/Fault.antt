@@ -25,7 +25,8 @@ use Rattle.terms.specs.Ranges.{number-in-range, in-range, AllInRange}
 use Rattle.terms.specs.Scan.{further, shift, fault}
 use Rattle.terms.specs.Whole.{OneTerm, Judged}
 use Rattle.terms.proofs.Places.{some-none, further-none, further-some, shift-further}
-use Rattle.terms.proofs.Reading.{walk, drop-read, one, two, three, gathered}
+use Rattle.calculus.proofs.Reading.{walk, one, two, three, gathered}
+use Rattle.terms.proofs.Places.{drop-read}
 
 pub arity-le : (k : Kind) → arity k ≤ 3
 arity-le Blank = omega arith

@@ -1,9 +1,13 @@
--- Places that a scan finds or does not: `further` and `shift`.
-use mathlib.Core.Path.{_≡_, refl, sym, ap}
-use Prim.Native.Nat.{ℕ, suc, _+_}
+-- Places that a scan finds or does not, `further` and `shift`, and what is read at one.
+use mathlib.Core.Path.{_≡_, refl, sym, ap, _∙_}
+use mathlib.Core.List.{List, _∷_}
+use Prim.Native.Nat.{ℕ, suc, _+_, _<_}
 use native.Mathlib.Omega.{arith}
 use Rattle.std.specs.declared.option.Option.{Option}
 use Rattle.std.specs.declared.option.Option.the-variants.{Some, None}
+use lib.ListN.{length, getD, drop}
+use Rattle.std.proofs.shelf.Lists.{drop-more}
+use Rattle.calculus.specs.declared.node.Node.{Node}
 use Rattle.terms.specs.Scan.{further, shift}
 
 pub some-none : {A : Type 0} (x : A) → Some x ≡ None → ⊥
@@ -32,3 +36,8 @@ further-shift i (Some k) = ap Some (omega arith)
 pub shift-further : (i : ℕ) (o : Option ℕ) → shift i (further o) ≡ shift (i + 1) o
 shift-further i None = refl
 shift-further i (Some k) = ap Some (omega arith)
+
+-- the node that is read at a place, and what follows it
+pub drop-read : (ns : List Node) (i : ℕ) (n : Node)
+    → i < length ns → n ≡ getD ns i n → drop i ns ≡ n ∷ drop (i + 1) ns
+drop-read ns i n l e = drop-more ns i n l ∙ ap (λ m. m ∷ drop (i + 1) ns) (sym e)

@@ -22,7 +22,7 @@ use Rattle.calculus.specs.declared.form.Form.{Form}
 use Rattle.calculus.specs.declared.form.Form.the-variants as form
 use Rattle.calculus.specs.Forms.{form-number, joins, entry, empty}
 use Rattle.types.specs.First.{First}
-use Rattle.types.specs.Tables.{given-entries, same-entry, occurs, laid, LaidDown, TableJudged}
+use Rattle.calculus.specs.Tables.{given-entries, same-entry, occurs, laid, LaidDown, TableJudged}
 
 -- Forms with one number are equal.
 

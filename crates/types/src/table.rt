@@ -1,7 +1,7 @@
 // The type table: six given entries, and later ones that each join two lower ones, no two equal.
 ghost use mathlib.Core.Path.{_≡_};
 ghost use mathlib.Core.Bool.{not};
-ghost use Rattle.types.specs.Tables.{same-entry, occurs, laid, TableJudged};
+ghost use Rattle.calculus.specs.Tables.{same-entry, occurs, laid, TableJudged};
 use crate::keyed::Keyed;
 use crate::keyed::first_with_key;
 use calculus::entry::Entry;

@@ -2,7 +2,7 @@ use Prim.Native.Nat.{_+_, _≤_}
 use mathlib.Core.Path.{_≡_}
 use mathlib.Core.List.{_++_, map}
 use lib.ListN.{length, take, drop}
-use Rattle.types.specs.Tables.{given-entries}
+use Rattle.calculus.specs.Tables.{given-entries}
 use Rattle.rule_file.specs.Records.{entry-of}
 use Rattle.rule_file.specs.Loading.{type-questions}
 use Rattle.rule_file.proofs.load.type_faults.Given as given

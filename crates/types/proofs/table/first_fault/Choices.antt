@@ -1,5 +1,5 @@
 use lib.ListN.{take}
-use Rattle.types.specs.Tables.{LaidDown}
+use Rattle.calculus.specs.Tables.{LaidDown}
 use Rattle.types.proofs.table.first_fault.Given as given
 
 abbrev pub Inv-loop-i : given.InvT-loop-i

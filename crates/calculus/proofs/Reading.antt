@@ -3,20 +3,19 @@
 --   length-onto  a term takes up as many nodes as its size
 --   drop-onto    what stands past them
 --   build        the terms that a list holds, read from its end
---   onto-once    a list begins with one term at most
---   drop-read    the node that is read at a place, and what follows it
+--   read-once    a list begins with one term at most
+--   length-flat  the length of a written form
 use mathlib.Core.Path.{_≡_, refl, sym, ap, _∙_}
 use mathlib.Core.List.{List, [], _∷_}
-use Prim.Native.Nat.{ℕ, suc, _+_, _<_}
+use Prim.Native.Nat.{ℕ, suc, _+_}
 use native.Mathlib.Omega.{arith}
 use native.Mathlib.Nat.{add-zero}
-use lib.ListN.{length, getD, drop}
-use Rattle.std.proofs.shelf.Lists.{drop-more}
+use lib.ListN.{length, drop}
 use Rattle.calculus.specs.declared.kind.Kind.{Kind}
 use Rattle.calculus.specs.declared.kind.Kind.the-variants.{Blank, Variable, Zero, Successor, Rec, Lambda, Apply, Triv, Pair, Fst, Snd, Abort, Inl, Inr, Case, Query}
 use Rattle.calculus.specs.declared.node.Node.{Node}
 use Rattle.calculus.specs.Kinds.{arity}
-use Rattle.calculus.specs.Syntax.{Term, VA, ZE, SU, RE, LA, AP, TR, PA, FS, SN, AB, IL, IR, CA, QU, onto, size}
+use Rattle.calculus.specs.Syntax.{Term, VA, ZE, SU, RE, LA, AP, TR, PA, FS, SN, AB, IL, IR, CA, QU, onto, flat, size}
 
 -- P p i ns is said of a list ns with p terms to come and i nodes up to some end.
 module _
@@ -113,11 +112,10 @@ build-onto (QU q e) r = rw (build-onto e r)
 heads : {a b : Term} {s t : List Term} → a ∷ s ≡ b ∷ t → a ≡ b
 heads p = cc
 
-pub onto-once : (t u : Term) (r s : List Node) → onto t r ≡ onto u s → (t ≡ u) × (r ≡ s)
-onto-once t u r s p =
+pub read-once : (t u : Term) (r s : List Node) → onto t r ≡ onto u s → (t ≡ u) × (r ≡ s)
+read-once t u r s p =
     let q : t ≡ u = heads (sym (build-onto t r) ∙ ap build p ∙ build-onto u s) in
     (q, sym (drop-onto t r) ∙ ap (drop (size t)) p ∙ ap (λ v. drop (size v) (onto u s)) q ∙ drop-onto u s)
 
-pub drop-read : (ns : List Node) (i : ℕ) (n : Node)
-    → i < length ns → n ≡ getD ns i n → drop i ns ≡ n ∷ drop (i + 1) ns
-drop-read ns i n l e = drop-more ns i n l ∙ ap (λ m. m ∷ drop (i + 1) ns) (sym e)
+pub length-flat : (t : Term) → length (flat t) ≡ size t
+length-flat t = length-onto t [] ∙ add-zero (size t)
