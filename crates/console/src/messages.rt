@@ -1,0 +1,156 @@
+// What each question asks, in words: a line for a refusal, and a longer explanation.
+ghost use mathlib.Core.Path.{_≡_};
+ghost use Rattle.std.specs.Options.{Cases};
+ghost use Rattle.calculus.specs.Refusals.{question-numbers};
+use calculus::refusal::Question;
+use calculus::refusal::Refusal;
+use std::fmt;
+
+// The question with this number, at place 0 where it has a place.
+pub fn question_numbered(number: usize) -> Option<Question>
+    ensures { λ r. ⌜ Cases r (Unit {0}) (λ q. question-numbers q .0 ≡ number) ⌝ }
+{
+    match number {
+        1 => Some(Question::FileLength),
+        2 => Some(Question::FileHead),
+        3 => Some(Question::FileRecords),
+        4 => Some(Question::TableRoom),
+        5 => Some(Question::TermUnended { place: 0 }),
+        6 => Some(Question::SectionMark { place: 0 }),
+        7 => Some(Question::NumberRange { place: 0 }),
+        8 => Some(Question::TypeNew { place: 0 }),
+        9 => Some(Question::TermEnded { place: 0 }),
+        10 => Some(Question::Counts),
+        12 => Some(Question::EntryLaid { place: 0 }),
+        13 => Some(Question::OneTerm { place: 0 }),
+        14 => Some(Question::ByteRoom),
+        _ => None,
+    }
+}
+
+// What must hold for a yes, in one line.
+pub fn needed(question: Question) -> &'static str {
+    match question {
+        Question::FileLength => "the file's length must be a positive multiple of 6",
+        Question::FileHead => "the head must be RU with at most 1024 type records and 1 to 4096 nodes",
+        Question::FileRecords => "the file must have one record for the head and as many more as the head's two counts say",
+        Question::TableRoom => "with T type records and N nodes, N nodes and 6 + T + N entries must fit into the tables",
+        Question::TermUnended { .. } => "there must be one term, and it has ended before this record",
+        Question::SectionMark { .. } => "a type record must have the mark TF, TP or TS, and a node record one of VA ZE SU RE LA AP TR PA FS SN AB IL IR CA QU",
+        Question::NumberRange { .. } => "type numbers must be below 6 + T, in a type record below its own, indexes below 4096, query numbers below 8, all else 0",
+        Question::TypeNew { .. } => "no earlier entry of the type table, given or recorded, may be the same",
+        Question::TermEnded { .. } => "the last record must end the term",
+        Question::Counts => "there must be 1 to 4096 nodes, and a count of types from 6 to 1030 that the type table has",
+        Question::EntryLaid { .. } => "entries 0 to 5 must be the given six, and each later entry a new TF, TP or TS of two lower entries",
+        Question::OneTerm { .. } => "the nodes must be one term, with type numbers below the count, indexes below 4096, query numbers below 8, all else 0",
+        Question::ByteRoom => "a byte list of 6 bytes for the head, each type record and each node is needed",
+    }
+}
+
+// What is asked, by which calls and when, what a no says of the input, and what to do then.
+fn details(question: Question) -> &'static str {
+    match question {
+        Question::FileLength => FILE_LENGTH,
+        Question::FileHead => FILE_HEAD,
+        Question::FileRecords => FILE_RECORDS,
+        Question::TableRoom => TABLE_ROOM,
+        Question::TermUnended { .. } => TERM_UNENDED,
+        Question::SectionMark { .. } => SECTION_MARK,
+        Question::NumberRange { .. } => NUMBER_RANGE,
+        Question::TypeNew { .. } => TYPE_NEW,
+        Question::TermEnded { .. } => TERM_ENDED,
+        Question::Counts => COUNTS,
+        Question::EntryLaid { .. } => ENTRY_LAID,
+        Question::OneTerm { .. } => ONE_TERM,
+        Question::ByteRoom => BYTE_ROOM,
+    }
+}
+
+const FILE_LENGTH: &str = "Is the file's length a positive multiple of 6?\n\
+    Asked by load, first of all.\n\
+    A no: The file is empty, or it does not end with a whole record of six bytes.\n\
+    Then: See that this is a rule file and that it was not cut short; assemble makes one from text.";
+
+const FILE_HEAD: &str = "Is the head RU with at most 1,024 type records and 1 to 4,096 nodes?\n\
+    Asked by load, of the first record.\n\
+    A no: The first two bytes are not RU, or one of the two counts after them is out of bounds.\n\
+    Then: See that this is a rule file; a larger rule has to be cut into smaller ones.";
+
+const FILE_RECORDS: &str = "Is the file as long as its head says?\n\
+    Asked by load, after the head.\n\
+    A no: With T type records and N nodes in the head, the length is not 6 × (1 + T + N).\n\
+    Then: See that the file was not cut short or joined with another, and that the head has the right counts.";
+
+const TABLE_ROOM: &str = "Are the tables long enough?\n\
+    Asked by load, after the file's length.\n\
+    A no: The node table has fewer than N places, or the type table fewer than 6 + T + N.\n\
+    Then: Lend longer tables; 4,096 nodes and 5,126 entries serve every file.";
+
+const TERM_UNENDED: &str = "Is the one term still unended at this node record?\n\
+    Asked by load, of each node record; the place is the record, and the head is record 0.\n\
+    A no: Every node before this record has all its children, so this one belongs to no term.\n\
+    Then: Take away the records from here on, or correct a node before it that should have more children.";
+
+const SECTION_MARK: &str = "Is the record's mark one of its section?\n\
+    Asked by load, of each record after the head; the place is the record, and the head is record 0.\n\
+    A no: A type record or a node record begins with two other bytes.\n\
+    Then: Correct the mark, or the counts in the head if the record belongs to the other section.";
+
+const NUMBER_RANGE: &str = "Are the record's numbers in range?\n\
+    Asked by load, of each record after the head; the place is the record, and the head is record 0.\n\
+    A no: A type record names its own type or a later one, a node names no type of the table, an index or a query is too large, or a number that means nothing is not 0.\n\
+    Then: Correct the number; a type has to stand before the types that it is a part of.";
+
+const TYPE_NEW: &str = "Is the type record's type new?\n\
+    Asked by load, of each type record; the place is the record, and the head is record 0.\n\
+    A no: One of the given six entries or an earlier type record is the same type.\n\
+    Then: Take the record away, and name the earlier entry's number in its place.";
+
+const TERM_ENDED: &str = "Is the term ended after the last record?\n\
+    Asked by load, after the last record; the place is the number of records.\n\
+    A no: A node lacks a child.\n\
+    Then: Add the missing nodes, and raise the count in the head.";
+
+const COUNTS: &str = "Are there 1 to 4,096 nodes, and is the count from 6 to 1,030 and within the table?\n\
+    Asked by write, first of all.\n\
+    A no: There is no node or there are too many, or the count leaves out a given entry or passes the end of the table.\n\
+    Then: Give the nodes of one rule, and count the given six entries too.";
+
+const ENTRY_LAID: &str = "Is each entry below the count as a type table lays it down?\n\
+    Asked by write, of each entry below the count; the place is the first entry at fault.\n\
+    A no: An entry is blank or of another form, differs from the given one, names itself or a later entry, or equals an earlier one.\n\
+    Then: Correct the entry, or lower the count.";
+
+const ONE_TERM: &str = "Are the nodes exactly one term, with numbers in range?\n\
+    Asked by write, of the nodes; the place is the first node at fault, or the number of nodes where the term is not ended.\n\
+    A no: A node is blank, has a number out of range or follows the end of the term, or the term lacks a node at its end.\n\
+    Then: Correct the node there, add the missing nodes, or take away those past the end of the term.";
+
+const BYTE_ROOM: &str = "Is the byte list long enough?\n\
+    Asked by write, last of all.\n\
+    A no: The rule does not fit into the byte list.\n\
+    Then: Lend a longer byte list; 30,726 bytes serve every rule.";
+
+// A refusal in one line: layer, number, place and child, and what was needed.
+#[derive(Clone, Copy)]
+pub struct RefusalLine(pub Refusal);
+
+pub impl fmt::Display for RefusalLine as RefusalLineDisplay {
+    fn fmt<W: fmt::Write>(&self, f: &mut fmt::Formatter<W>) -> fmt::Result {
+        let report = self.0.report();
+        let (layer, number, place, child) = (report.layer, report.number, report.place, report.child);
+        let needs = needed(self.0.question);
+        write!(f, "refused {layer} {number} {place} {child}: {needs}")
+    }
+}
+
+// A question explained on several lines.
+#[derive(Clone, Copy)]
+pub struct Explanation(pub Question);
+
+pub impl fmt::Display for Explanation as ExplanationDisplay {
+    fn fmt<W: fmt::Write>(&self, f: &mut fmt::Formatter<W>) -> fmt::Result {
+        let (details, needed) = (details(self.0), needed(self.0));
+        write!(f, "{details}\nNeeded for a yes: {needed}.")
+    }
+}
