@@ -10,6 +10,7 @@ pub mod TypedScoped
 pub mod OneNext
 pub mod Next
 pub mod Scopes
+pub mod Substitution
 pub mod Substituted
 pub mod TypeKept
 pub mod Progress

@@ -2,6 +2,7 @@ pub mod Kinds
 pub mod Forms
 pub mod Refusals
 pub mod Syntax
+pub mod Substitution
 pub mod Tables
 pub mod Meanings
 pub mod Typing

@@ -5,6 +5,7 @@ ghost use Rattle.calculus.specs.Safety.{OneType, InferExact, TypingKept, Typed
 ghost use Rattle.calculus.specs.Safety.{ValueRests, OneNext, NextExact, ValueExact};
 ghost use Rattle.calculus.specs.Safety.{ClosedKept, TypeKept, Progress};
 ghost use Rattle.calculus.specs.Safety.{RunsCompose, RunsAgree, RunKeepsType, Stops, OneStop};
+ghost use Rattle.calculus.specs.Substitution.{SubstitutionUsual};
 ghost use Rattle.calculus.specs.Examples.{WorkedRules, EmptyLawful};
 
 // How terms are read from lists of nodes.
@@ -20,6 +21,11 @@ pub fn type_tables()
     ensures given { λ _. ⌜ GivenReadings ⌝ }
     ensures joined { λ _. ⌜ EntriesJoin ⌝ }
     ensures answers { λ _. ⌜ AnswersRead ⌝ }
+{}
+
+// What the substitution of a redex does.
+pub fn substitution()
+    ensures usual { λ _. ⌜ SubstitutionUsual ⌝ }
 {}
 
 // Types of terms.
