@@ -29,9 +29,9 @@ at-lower (suc d) v (suc i) h = at-lower d v i (omega arith)
 variable : (d : ℕ) (v : Term) (i : ℕ) → i < suc d → put (at d v) (VA i) ≡ usual d v (VA i)
 variable d v i h =
     elim (cases-eq i d) [
-      inl e ↦ ap (λ j. valueOr (at d v j) (VA j)) e ∙ ap (λ o. valueOr o (VA d)) (at-own d v)
+      | inl e ↦ ap (λ j. valueOr (at d v j) (VA j)) e ∙ ap (λ o. valueOr o (VA d)) (at-own d v)
           ∙ sym (ap (λ b. cond b v (cond (ltb i d) (VA i) (VA (i - 1)))) (eq-eqb i d e))
-    | inr n ↦ ap (λ o. valueOr o (VA i)) (at-lower d v i (omega arith))
+      | inr n ↦ ap (λ o. valueOr o (VA i)) (at-lower d v i (omega arith))
           ∙ sym (ap (λ b. cond b v (cond (ltb i d) (VA i) (VA (i - 1)))) (ne-eqb i d n)
           ∙ ap (λ b. cond b (VA i) (VA (i - 1))) (lt-ltb i d (omega arith)))
     ]

@@ -90,7 +90,10 @@ pub fn assemble(heap: Global, text: Text<'_>) -> Result<Vec<u8>, Failure> {
 fn read(heap: Global, text: Text<'_>) -> Result<Assembly, Failure> {
     let nodes = Vec::new(heap);
     let types = Vec::from_slice(heap, &GIVEN)?;
-    let mut assembly = Assembly { rule: Rule { nodes, types }, positions: Vec::new(heap) };
+    let mut assembly = Assembly {
+        rule: Rule { nodes, types },
+        positions: Vec::new(heap),
+    };
     for (number, line) in text.text.lines().enumerate() {
         if let Err((position, error)) = assembly.add_line(number, line) {
             return Err(at_word(heap, text, position, error)?);
@@ -145,11 +148,19 @@ fn without_comment(line: &str) -> &str {
 }
 
 // The message about a word: the text's name, the word's line and column from 1, the word, and why.
-fn at_word(heap: Global, text: Text<'_>, position: Position, why: impl fmt::Display + Drop) -> Result<Failure, AllocError> {
+fn at_word(
+    heap: Global,
+    text: Text<'_>,
+    position: Position,
+    why: impl fmt::Display + Drop,
+) -> Result<Failure, AllocError> {
     let name = text.name;
     let line = text.text.lines().nth(position.line).unwrap_or("");
     let column = column_of(line, position.word);
-    let word = without_comment(line).split_whitespace().nth(position.word).unwrap_or("");
+    let word = without_comment(line)
+        .split_whitespace()
+        .nth(position.word)
+        .unwrap_or("");
     let number = position.line.saturating_add(1);
     Ok(Failure::Message(format!(heap, "{name}:{number}:{column}: {word}: {why}")?))
 }
@@ -172,7 +183,12 @@ fn column_of(line: &str, word: usize) -> usize {
 }
 
 // The message about a refusal, at the word that it is about where there is one.
-fn refused(heap: Global, text: Text<'_>, assembly: &Assembly, refusal: Refusal) -> Result<Failure, AllocError> {
+fn refused(
+    heap: Global,
+    text: Text<'_>,
+    assembly: &Assembly,
+    refusal: Refusal,
+) -> Result<Failure, AllocError> {
     let line = RefusalLine(refusal);
     if let Some(position) = assembly.position_of(refusal.question) {
         return at_word(heap, text, position, line);
@@ -180,5 +196,10 @@ fn refused(heap: Global, text: Text<'_>, assembly: &Assembly, refusal: Refusal) 
     let name = text.name;
     let types = assembly.rule.types.len();
     let nodes = assembly.rule.nodes.len();
-    Ok(Failure::Message(format!(heap, "{name}: {nodes} nodes and {types} types, the given six among them: {line}")?))
+    Ok(Failure::Message(
+        format!(
+            heap,
+            "{name}: {nodes} nodes and {types} types, the given six among them: {line}"
+        )?,
+    ))
 }

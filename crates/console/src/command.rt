@@ -74,10 +74,16 @@ pub impl fmt::Display for LineError<'_> as LineErrorDisplay {
         match *self {
             LineError::Memory => f.write_str("out of memory"),
             LineError::NotText => f.write_str("the line is not UTF-8 text"),
-            LineError::Unknown(name) => write!(f, "{name}: unknown; the commands are tables, file, load, nodes, types, entry, count, write and dump"),
+            LineError::Unknown(name) => write!(
+                f,
+                "{name}: unknown; the commands are tables, file, load, nodes, types, entry, count, write and dump"
+            ),
             LineError::Usage(usage) => write!(f, "write {usage}"),
             LineError::Word { word, error } => write!(f, "{word}: {error}"),
-            LineError::TableShort { entries, needed } => write!(f, "the type table has {entries} entries, and {needed} are needed"),
+            LineError::TableShort { entries, needed } => write!(
+                f,
+                "the type table has {entries} entries, and {needed} are needed"
+            ),
         }
     }
 }
@@ -107,7 +113,11 @@ pub fn command_of<'a>(heap: Global, line: &'a str) -> Result<Option<Command>, Li
 }
 
 // A command that takes no words.
-fn alone(mut words: SplitWhitespace<'_>, command: Command, usage: &'static str) -> Result<Command, LineError<'static>> {
+fn alone(
+    mut words: SplitWhitespace<'_>,
+    command: Command,
+    usage: &'static str,
+) -> Result<Command, LineError<'static>> {
     match words.next() {
         Some(_) => Err(LineError::Usage(usage)),
         None => Ok(command),
@@ -115,7 +125,10 @@ fn alone(mut words: SplitWhitespace<'_>, command: Command, usage: &'static str) 
 }
 
 // The only word.
-fn only_word<'a>(mut words: SplitWhitespace<'a>, usage: &'static str) -> Result<&'a str, LineError<'static>> {
+fn only_word<'a>(
+    mut words: SplitWhitespace<'a>,
+    usage: &'static str,
+) -> Result<&'a str, LineError<'static>> {
     match (words.next(), words.next()) {
         (Some(word), None) => Ok(word),
         _ => Err(LineError::Usage(usage)),
@@ -145,7 +158,12 @@ fn lengths_of(mut words: SplitWhitespace<'_>) -> Result<Lengths, LineError<'stat
         return Err(wrong);
     }
     let [nodes, types, scratch, bytes] = lengths;
-    Ok(Lengths { nodes, types, scratch, bytes })
+    Ok(Lengths {
+        nodes,
+        types,
+        scratch,
+        bytes,
+    })
 }
 
 fn file_of(heap: Global, mut words: SplitWhitespace<'_>) -> Result<Vec<u8>, LineError<'static>> {
@@ -161,7 +179,10 @@ fn file_of(heap: Global, mut words: SplitWhitespace<'_>) -> Result<Vec<u8>, Line
 }
 
 // Every word as a node or as an entry.
-fn all_of<'a, T: Worded + Drop>(heap: Global, words: SplitWhitespace<'a>) -> Result<Vec<T>, LineError<'a>> {
+fn all_of<'a, T: Worded + Drop>(
+    heap: Global,
+    words: SplitWhitespace<'a>,
+) -> Result<Vec<T>, LineError<'a>> {
     let mut all = Vec::new(heap);
     for word in words {
         match T::of_word(word) {

@@ -11,13 +11,17 @@ use crate::rule::Rule;
 use std::alloc::Global;
 
 // A function of a function, applied to the successor: AP LA6 AP VA0 ZE LA0 SU VA0, where entry 6 is TF0/0.
-const RULE: [u8; 60] = *b"RU\x01\x00\x08\x00TF\x00\x00\x00\x00AP\x00\x00\x00\x00LA\x06\x00\x00\x00AP\x00\x00\x00\x00VA\x00\x00\x00\x00ZE\x00\x00\x00\x00LA\x00\x00\x00\x00SU\x00\x00\x00\x00VA\x00\x00\x00\x00";
+const RULE: [u8; 60] =
+    *b"RU\x01\x00\x08\x00TF\x00\x00\x00\x00AP\x00\x00\x00\x00LA\x06\x00\x00\x00AP\x00\x00\x00\x00VA\x00\x00\x00\x00ZE\x00\x00\x00\x00LA\x00\x00\x00\x00SU\x00\x00\x00\x00VA\x00\x00\x00\x00";
 
 // Each stage of the example as text.
 pub fn example(heap: Global) -> Result<String, Failure> {
     let mut text = String::new(heap);
     let length = RULE.len();
-    writeln!(text, "An example; midraukle help lists the commands.\n\nA rule file of {length} bytes, a record a line:")?;
+    writeln!(
+        text,
+        "An example; midraukle help lists the commands.\n\nA rule file of {length} bytes, a record a line:"
+    )?;
     for record in RULE.chunks(6) {
         writeln!(text, "  {}", Hex(record))?;
     }
@@ -25,9 +29,16 @@ pub fn example(heap: Global) -> Result<String, Failure> {
     let described = description(heap, &rule)?;
     writeln!(text, "\nLoaded: {described}")?;
     match rule.to_file(heap)? {
-        Ok(file) if file.as_slice() == RULE.as_slice() => writeln!(text, "Written back: {length} bytes, equal to the file.")?,
-        Ok(_) => return Err(Failure::Message(String::from_str(heap, "example: the bytes written back differ from the file")?)),
-        Err(refusal) => return Err(Failure::Message(format!(heap, "example: {}", RefusalLine(refusal))?)),
+        Ok(file) if file.as_slice() == RULE.as_slice() => writeln!(
+            text,
+            "Written back: {length} bytes, equal to the file."
+        )?,
+        Ok(_) => return Err(Failure::Message(
+            String::from_str(heap, "example: the bytes written back differ from the file")?,
+        )),
+        Err(refusal) => return Err(Failure::Message(
+            format!(heap, "example: {}", RefusalLine(refusal))?,
+        )),
     }
     Ok(text)
 }

@@ -32,18 +32,29 @@ pub fn question_numbered(number: usize) -> Option<Question>
 pub fn needed(question: Question) -> &'static str {
     match question {
         Question::FileLength => "the file's length must be a positive multiple of 6",
-        Question::FileHead => "the head must be RU with at most 1024 type records and 1 to 4096 nodes",
-        Question::FileRecords => "the file must have one record for the head and as many more as the head's two counts say",
-        Question::TableRoom => "with T type records and N nodes, N nodes and 6 + T + N entries must fit into the tables",
-        Question::TermUnended { .. } => "there must be one term, and it has ended before this record",
-        Question::SectionMark { .. } => "a type record must have the mark TF, TP or TS, and a node record one of VA ZE SU RE LA AP TR PA FS SN AB IL IR CA QU",
-        Question::NumberRange { .. } => "type numbers must be below 6 + T, in a type record below its own, indexes below 4096, query numbers below 8, all else 0",
-        Question::TypeNew { .. } => "no earlier entry of the type table, given or recorded, may be the same",
+        Question::FileHead =>
+            "the head must be RU with at most 1024 type records and 1 to 4096 nodes",
+        Question::FileRecords =>
+            "the file must have one record for the head and as many more as the head's two counts say",
+        Question::TableRoom =>
+            "with T type records and N nodes, N nodes and 6 + T + N entries must fit into the tables",
+        Question::TermUnended { .. } =>
+            "there must be one term, and it has ended before this record",
+        Question::SectionMark { .. } =>
+            "a type record must have the mark TF, TP or TS, and a node record one of VA ZE SU RE LA AP TR PA FS SN AB IL IR CA QU",
+        Question::NumberRange { .. } =>
+            "type numbers must be below 6 + T, in a type record below its own, indexes below 4096, query numbers below 8, all else 0",
+        Question::TypeNew { .. } =>
+            "no earlier entry of the type table, given or recorded, may be the same",
         Question::TermEnded { .. } => "the last record must end the term",
-        Question::Counts => "there must be 1 to 4096 nodes, and a count of types from 6 to 1030 that the type table has",
-        Question::EntryLaid { .. } => "entries 0 to 5 must be the given six, and each later entry a new TF, TP or TS of two lower entries",
-        Question::OneTerm { .. } => "the nodes must be one term, with type numbers below the count, indexes below 4096, query numbers below 8, all else 0",
-        Question::ByteRoom => "a byte list of 6 bytes for the head, each type record and each node is needed",
+        Question::Counts =>
+            "there must be 1 to 4096 nodes, and a count of types from 6 to 1030 that the type table has",
+        Question::EntryLaid { .. } =>
+            "entries 0 to 5 must be the given six, and each later entry a new TF, TP or TS of two lower entries",
+        Question::OneTerm { .. } =>
+            "the nodes must be one term, with type numbers below the count, indexes below 4096, query numbers below 8, all else 0",
+        Question::ByteRoom =>
+            "a byte list of 6 bytes for the head, each type record and each node is needed",
     }
 }
 
@@ -111,7 +122,8 @@ const TERM_ENDED: &str = "Is the term ended after the last record?\n\
     A no: A node lacks a child.\n\
     Then: Add the missing nodes, and raise the count in the head.";
 
-const COUNTS: &str = "Are there 1 to 4,096 nodes, and is the count from 6 to 1,030 and within the table?\n\
+const COUNTS: &str =
+    "Are there 1 to 4,096 nodes, and is the count from 6 to 1,030 and within the table?\n\
     Asked by write, first of all.\n\
     A no: There is no node or there are too many, or the count leaves out a given entry or passes the end of the table.\n\
     Then: Give the nodes of one rule, and count the given six entries too.";
@@ -138,7 +150,12 @@ pub struct RefusalLine(pub Refusal);
 pub impl fmt::Display for RefusalLine as RefusalLineDisplay {
     fn fmt<W: fmt::Write>(&self, f: &mut fmt::Formatter<W>) -> fmt::Result {
         let report = self.0.report();
-        let (layer, number, place, child) = (report.layer, report.number, report.place, report.child);
+        let (layer, number, place, child) = (
+            report.layer,
+            report.number,
+            report.place,
+            report.child,
+        );
         let needs = needed(self.0.question);
         write!(f, "refused {layer} {number} {place} {child}: {needs}")
     }

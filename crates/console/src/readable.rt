@@ -83,7 +83,12 @@ pub impl fmt::Display for Words<'_> as WordsDisplay {
 }
 
 // Adds a line for each node: its place, its word below its parent's, and what it is.
-fn add_tree(heap: Global, text: &mut String, nodes: &[Node], names: &[String]) -> Result<(), Failure> {
+fn add_tree(
+    heap: Global,
+    text: &mut String,
+    nodes: &[Node],
+    names: &[String],
+) -> Result<(), Failure> {
     // the depths of the nodes that are still to come, the next one last
     let mut depths = vec![in heap; 0usize; 1]?;
     for (place, node) in nodes.iter().enumerate() {
@@ -117,7 +122,9 @@ impl fmt::Display for Indent as IndentDisplay {
 // The name of the type that a node has as its number.
 fn type_in<'a>(node: Node, names: &'a [String]) -> Option<&'a str> {
     match node.kind {
-        Kind::Lambda | Kind::Abort | Kind::Inl | Kind::Inr => match names.get(usize::from(node.number)) {
+        Kind::Lambda | Kind::Abort | Kind::Inl | Kind::Inr => match names.get(usize::from(
+            node.number,
+        )) {
             Some(name) => Some(name.as_str()),
             None => None,
         },

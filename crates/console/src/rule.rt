@@ -16,6 +16,7 @@ use std::alloc::Global;
 
 // Table lengths that serve every file: 4,096 nodes, and the given six entries with 1,024 more and one for each node.
 const MOST_NODES: usize = 4096;
+
 const MOST_ENTRIES: usize = 5126;
 // The length of the longest file: six bytes for the head, 1,024 type records and 4,096 nodes.
 const MOST_BYTES: usize = 30_726;
@@ -46,7 +47,12 @@ impl Rule {
     pub fn to_file(&self, heap: Global) -> Result<Result<Vec<u8>, Refusal>, AllocError> {
         let mut bytes = vec![in heap; 0; MOST_BYTES]?;
         let types = self.types.as_slice();
-        match write(self.nodes.as_slice(), types, types.len(), bytes.as_mut_slice()) {
+        match write(
+            self.nodes.as_slice(),
+            types,
+            types.len(),
+            bytes.as_mut_slice(),
+        ) {
             Ok(length) => {
                 bytes.truncate(length);
                 Ok(Ok(bytes))
@@ -57,12 +63,21 @@ impl Rule {
 }
 
 // Why a file was not loaded, with the record at fault where there is one.
-fn unloadable(heap: Global, name: &str, file: &[u8], refusal: Refusal) -> Result<Failure, AllocError> {
+fn unloadable(
+    heap: Global,
+    name: &str,
+    file: &[u8],
+    refusal: Refusal,
+) -> Result<Failure, AllocError> {
     let length = file.len();
     let place = refusal.report().place;
     let line = RefusalLine(refusal);
     let message = match six_at(file, usize::from(place)) {
-        Some(six) => format!(heap, "{name}: {length} bytes, record {place} is {}: {line}", Hex(six)),
+        Some(six) => format!(
+            heap,
+            "{name}: {length} bytes, record {place} is {}: {line}",
+            Hex(six)
+        ),
         None => format!(heap, "{name}: {length} bytes: {line}"),
     };
     Ok(Failure::Message(message?))

@@ -35,7 +35,10 @@ impl<R: Read + Drop> Source<R> {
 // Plays a script to its end.
 pub fn play<R: Read + Drop>(rt: &LibcRuntime, input: R) -> Result<(), Failure> {
     let heap = rt.alloc();
-    let mut source = Source { heap, reader: BufReader::new(input) };
+    let mut source = Source {
+        heap,
+        reader: BufReader::new(input),
+    };
     let mut session = Session::new(heap);
     for _ in 0..u64::MAX {
         let Some(line) = source.next_line()? else {
@@ -58,7 +61,11 @@ fn answer_to(heap: Global, session: &mut Session, line: &[u8]) -> Result<Option<
     }
 }
 
-fn result_of<'a>(heap: Global, session: &mut Session, line: &'a [u8]) -> Result<Option<String>, LineError<'a>> {
+fn result_of<'a>(
+    heap: Global,
+    session: &mut Session,
+    line: &'a [u8],
+) -> Result<Option<String>, LineError<'a>> {
     let Ok(line) = std::str::from_utf8(line) else {
         return Err(LineError::NotText);
     };

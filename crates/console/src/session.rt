@@ -26,9 +26,19 @@ use std::alloc::Global;
 use types::table::GIVEN;
 
 // What new tables hold, so that a call that leaves a place alone can be seen to.
-const NODE_FILLER: Node = Node { kind: Kind::Fst, number: 9 };
-const ENTRY_FILLER: Entry = Entry { form: Form::Product, left: 9, right: 9 };
+const NODE_FILLER: Node = Node {
+    kind: Kind::Fst,
+    number: 9,
+};
+
+const ENTRY_FILLER: Entry = Entry {
+    form: Form::Product,
+    left: 9,
+    right: 9,
+};
+
 const NUMBER_FILLER: u32 = 9;
+
 const BYTE_FILLER: u8 = 9;
 
 #[derive(Drop)]
@@ -79,7 +89,12 @@ impl Session {
     }
 
     fn make_tables(&mut self, lengths: Lengths) -> Answer {
-        let Lengths { nodes, types, scratch, bytes } = lengths;
+        let Lengths {
+            nodes,
+            types,
+            scratch,
+            bytes,
+        } = lengths;
         self.nodes = vec![in self.heap; NODE_FILLER; nodes]?;
         self.types = vec![in self.heap; ENTRY_FILLER; types]?;
         self.scratch = vec![in self.heap; NUMBER_FILLER; scratch]?;
@@ -97,7 +112,11 @@ impl Session {
 
     fn load(&mut self) -> Answer {
         let heap = self.heap;
-        match load(self.file.as_slice(), self.nodes.as_mut_slice(), self.types.as_mut_slice()) {
+        match load(
+            self.file.as_slice(),
+            self.nodes.as_mut_slice(),
+            self.types.as_mut_slice(),
+        ) {
             Ok(loaded) => {
                 let (rule, count) = (loaded.nodes, loaded.count);
                 self.rule = rule;
@@ -147,7 +166,12 @@ impl Session {
         let heap = self.heap;
         let rule = self.rule.min(self.nodes.len());
         let nodes = self.nodes.as_slice();
-        match write(&nodes[0..rule], self.types.as_slice(), self.count, self.bytes.as_mut_slice()) {
+        match write(
+            &nodes[0..rule],
+            self.types.as_slice(),
+            self.count,
+            self.bytes.as_mut_slice(),
+        ) {
             Ok(length) => {
                 let bytes = self.bytes.as_slice();
                 let written = Hex(&bytes[0..length.min(bytes.len())]);

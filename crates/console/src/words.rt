@@ -18,7 +18,8 @@ pub impl fmt::Display for WordError as WordErrorDisplay {
     fn fmt<W: fmt::Write>(&self, f: &mut fmt::Formatter<W>) -> fmt::Result {
         f.write_str(
             match *self {
-                WordError::Mark => "a node begins with VA ZE SU RE LA AP TR PA FS SN AB IL IR CA QU, a type with TN TU TV TF TP TS, a blank with --",
+                WordError::Mark =>
+                    "a node begins with VA ZE SU RE LA AP TR PA FS SN AB IL IR CA QU, a type with TN TU TV TF TP TS, a blank with --",
                 WordError::NumberMissing => "a number must follow the mark, as in LA0",
                 WordError::NumbersMissing => "two type numbers must follow the mark, as in TF0/6",
                 WordError::Number => "a number has decimal digits alone, and is at most 65535",
@@ -80,7 +81,10 @@ pub fn is_type_word(word: &str) -> bool {
 
 // Whether a node of this kind is written with its number also where that is 0.
 fn has_number(kind: Kind) -> bool {
-    matches!(kind, Kind::Variable | Kind::Lambda | Kind::Abort | Kind::Inl | Kind::Inr | Kind::Query)
+    matches!(
+        kind,
+        Kind::Variable | Kind::Lambda | Kind::Abort | Kind::Inl | Kind::Inr | Kind::Query
+    )
 }
 
 // Whether a type of this form is written with its two numbers also where both are 0.
@@ -122,7 +126,11 @@ pub impl Worded for Entry as EntryWorded {
             return Err(WordError::Mark);
         };
         if digits.is_empty() && !has_numbers(form) {
-            return Ok(Entry { form, left: 0, right: 0 });
+            return Ok(Entry {
+                form,
+                left: 0,
+                right: 0,
+            });
         }
         let Some((left, right)) = digits.split_once('/') else {
             return Err(WordError::NumbersMissing);

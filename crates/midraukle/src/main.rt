@@ -61,21 +61,41 @@ fn assemble_file(rt: &LibcRuntime, name: &str, out: &str) -> Result<(), Failure>
         Ok(text) => text,
         Err(e) => return Err(unreadable(rt, name, e)?),
     };
-    let file = assemble(rt.alloc(), Text { name, text: text.as_str() })?;
+    let file = assemble(
+        rt.alloc(),
+        Text {
+            name,
+            text: text.as_str(),
+        },
+    )?;
     let length = file.len();
     match fs::write(rt, out, file.as_slice()) {
         Ok(()) => println!(rt, "{out}: {length} bytes")?,
-        Err(e) => return Err(Failure::Message(format!(rt.alloc(), "{out}: cannot be written: {e}")?)),
+        Err(e) => return Err(Failure::Message(
+            format!(rt.alloc(), "{out}: cannot be written: {e}")?,
+        )),
     }
     Ok(())
 }
 
 fn explain(rt: &LibcRuntime, number: &str) -> Result<(), Failure> {
     let Some(value) = decimal(number) else {
-        return Err(message(rt, number, "a question's number was expected, in decimal digits")?);
+        return Err(
+            message(
+                rt,
+                number,
+                "a question's number was expected, in decimal digits",
+            )?,
+        );
     };
     let Some(question) = question_numbered(value) else {
-        return Err(message(rt, number, "no question has this number; there are 1 to 10 and 12 to 14")?);
+        return Err(
+            message(
+                rt,
+                number,
+                "no question has this number; there are 1 to 10 and 12 to 14",
+            )?,
+        );
     };
     println!(rt, "question {value}: {}", Explanation(question))?;
     Ok(())

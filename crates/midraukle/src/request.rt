@@ -3,12 +3,22 @@
 #[derive(Clone, Copy)]
 pub enum Request<'a> {
     Example,
-    Show { rule: &'a str },
-    Assemble { text: &'a str, out: &'a str },
+    Show {
+        rule: &'a str,
+    },
+    Assemble {
+        text: &'a str,
+        out: &'a str,
+    },
     Script,
-    Explain { number: &'a str },
+    Explain {
+        number: &'a str,
+    },
     Help,
-    Unreadable { command: &'a str, usage: &'static str },
+    Unreadable {
+        command: &'a str,
+        usage: &'static str,
+    },
 }
 
 // The request that the arguments say, the program's name left out.
@@ -40,7 +50,10 @@ fn with_one<'a>(command: &'a str, first: &'a str) -> Request<'a> {
 
 fn with_two<'a>(command: &'a str, first: &'a str, second: &'a str) -> Request<'a> {
     match command {
-        "assemble" => Request::Assemble { text: first, out: second },
+        "assemble" => Request::Assemble {
+            text: first,
+            out: second,
+        },
         _ => unreadable(command),
     }
 }

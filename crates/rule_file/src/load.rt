@@ -11,9 +11,10 @@ ghost use Rattle.calculus.specs.Tables.{given-entries};
 ghost use Rattle.rule_file.specs.Records.{entry-of, node-of};
 ghost use Rattle.rule_file.specs.Accepted.{LoadedRule, RefusedAt, WritesBack};
 ghost use Rattle.rule_file.specs.Loading.{head-fits, head-question, HeadOf, type-question, type-questions, node-question, node-questions, type-records, node-records, body-question, entries-in, filled, in-file, LoadCall};
+use crate::record::Head;
 use crate::record::Record;
 use crate::record::entry_of;
-use crate::record::first_number;
+use crate::record::head_of;
 use crate::record::node_of;
 use crate::record::record_of;
 use crate::record::second_number;
@@ -43,13 +44,6 @@ fn head_fits(types: usize, nodes: usize) -> bool
     types <= 1024 && 1 <= nodes && nodes <= 4096
 }
 
-// The two counts of a head.
-#[derive(Clone, Copy)]
-struct Head {
-    types: usize,
-    nodes: usize,
-}
-
 // Questions 1 to 3: the file's length and its head.
 fn read_head(file: &[u8]) -> Result<Head, Question>
     ensures value { λ r. ⌜ Cases r (λ head. HeadOf (now (file .entry)) (head .types) (head .nodes)) (λ q. head-question (now (file .entry)) ≡ Some q) ⌝ }
@@ -61,8 +55,9 @@ fn read_head(file: &[u8]) -> Result<Head, Question>
     if length % 6 != 0 {
         return Err(Question::FileLength);
     }
-    let types = usize::from(first_number(six));
-    let nodes = usize::from(second_number(six));
+    let head = head_of(six);
+    let types = usize::from(head.types);
+    let nodes = usize::from(head.nodes);
     let Record::Head(_) = record_of(six) else {
         return Err(Question::FileHead);
     };
@@ -72,7 +67,7 @@ fn read_head(file: &[u8]) -> Result<Head, Question>
     if length != 6 * (1 + types + nodes) {
         return Err(Question::FileRecords);
     }
-    Ok(Head { types, nodes })
+    Ok(head)
 }
 
 // Questions 6 to 8 of one type record, after the entries before it.
@@ -155,7 +150,7 @@ fn type_section(file: &[u8], head: Head) -> &[[u8; 6]]
     ensures len { λ r. ⌜ length (now r) ≡ head .types ⌝ }
 {
     let (records, _) = file.as_chunks::<6>();
-    let end = 1 + head.types;
+    let end = 1 + usize::from(head.types);
     &records[1..end]
 }
 
@@ -166,8 +161,8 @@ fn node_section(file: &[u8], head: Head) -> &[[u8; 6]]
     ensures len { λ r. ⌜ length (now r) ≡ head .nodes ⌝ }
 {
     let (records, _) = file.as_chunks::<6>();
-    let begin = 1 + head.types;
-    let end = begin + head.nodes;
+    let begin = 1 + usize::from(head.types);
+    let end = begin + usize::from(head.nodes);
     &records[begin..end]
 }
 
@@ -187,10 +182,11 @@ fn body_fault(file: &[u8], head: Head, table: &mut [Entry]) -> Option<Question>
     ensures value { λ r. ⌜ r ≡ body-question (now (file .entry)) ⌝ }
     ensures entries { λ r. ⌜ (r ≡ None → take (6 + head .types) (now (table .exit)) ≡ entries-in (now (file .entry))) ⌝ }
 {
+    let types = usize::from(head.types);
     if let Some(question) = type_faults(type_section(file, head), table) {
         return Some(question);
     }
-    node_faults(1 + head.types, 6 + head.types, node_section(file, head))
+    node_faults(1 + types, 6 + types, node_section(file, head))
 }
 
 // Fills a node table with the nodes that these records say, and blanks past them.
@@ -232,8 +228,9 @@ fn load_tables(file: &[u8], nodes: &mut [Node], types: &mut [Entry]) -> Result<L
         Ok(head) => head,
         Err(question) => return Err(refused(question)),
     };
-    let count = 6 + head.types;
-    if nodes.len() < head.nodes || types.len() < count + head.nodes {
+    let count = 6 + usize::from(head.types);
+    let rule = usize::from(head.nodes);
+    if nodes.len() < rule || types.len() < count + rule {
         return Err(refused(Question::TableRoom));
     }
     let mut table = given_table();
@@ -242,10 +239,7 @@ fn load_tables(file: &[u8], nodes: &mut [Node], types: &mut [Entry]) -> Result<L
     }
     lay_nodes(node_section(file, head), nodes);
     lay_entries(&table[0..count], types);
-    Ok(Loaded {
-        nodes: head.nodes,
-        count,
-    })
+    Ok(Loaded { nodes: rule, count })
 }
 
 // Reads a rule file into a node table and a type table. It puts questions 1 to 9 in order; a no leaves both tables as

@@ -94,6 +94,24 @@ pub fn second_number(six: &[u8; 6]) -> u16
     u16::from_le_bytes([six[4], six[5]])
 }
 
+// The head of a file: how many type records and nodes follow.
+#[derive(Clone, Copy)]
+pub struct Head {
+    pub types: u16,
+    pub nodes: u16,
+}
+
+// The two counts that a head says.
+pub fn head_of(six: &[u8; 6]) -> Head
+    ensures types { λ r. ⌜ r .types ≡ first-number (now (six .entry)) ⌝ }
+    ensures nodes { λ r. ⌜ r .nodes ≡ second-number (now (six .entry)) ⌝ }
+{
+    Head {
+        types: first_number(six),
+        nodes: second_number(six),
+    }
+}
+
 // The entry that a type record says; its form is blank where the mark is not one of a type.
 pub fn entry_of(six: &[u8; 6]) -> Entry
     ensures value { λ r. ⌜ r ≡ entry-of (now (six .entry)) ⌝ }

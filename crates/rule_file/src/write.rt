@@ -10,6 +10,7 @@ ghost use Rattle.rule_file.specs.Files.{low-high, head-bytes, entry-bytes, nod
 ghost use Rattle.rule_file.specs.Accepted.{LoadsBack};
 ghost use Rattle.rule_file.specs.Writing.{CountsFit, file-length, Writable, Unwritable, WriteCall};
 use crate::load::refused;
+use crate::record::Head;
 use calculus::entry::Entry;
 use calculus::node::Node;
 use calculus::refusal::Question;
@@ -23,13 +24,6 @@ pub trait Encode {
 
     fn encode(&self) -> [u8; 6]
         ensures { λ r. ⌜ r ≡ encoded (now (self .entry)) ⌝ };
-}
-
-// The head of a file: how many type records and nodes follow.
-#[derive(Clone, Copy)]
-pub struct Head {
-    pub types: u16,
-    pub nodes: u16,
 }
 
 fn six(mark: [u8; 2], first: u16, second: u16) -> [u8; 6]

@@ -37,7 +37,13 @@ fn run(rt: &LibcRuntime) -> Result<(), Failure> {
 // The file that a text says, in hexadecimal, and the rule that it says; or why there is none.
 fn show_text(rt: &LibcRuntime, name: &str) -> Result<(), Failure> {
     let text = fs::read_to_string(rt, name)?;
-    match assemble(rt.alloc(), Text { name, text: text.as_str() }) {
+    match assemble(
+        rt.alloc(),
+        Text {
+            name,
+            text: text.as_str(),
+        },
+    ) {
         Ok(file) => {
             println!(rt, "{}", Hex(file.as_slice()))?;
             let rule = Rule::of_file(rt.alloc(), name, file.as_slice())?;
