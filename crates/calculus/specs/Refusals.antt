@@ -5,14 +5,15 @@
 -- Assumes nothing.
 use Prim.Native.Nat.{ℕ}
 use Rattle.calculus.specs.declared.refusal.Layer.{Layer}
-use Rattle.calculus.specs.declared.refusal.Layer.the-variants.{File}
+use Rattle.calculus.specs.declared.refusal.Layer.the-variants.{File, Host}
 use Rattle.calculus.specs.declared.refusal.Question.{Question}
-use Rattle.calculus.specs.declared.refusal.Question.the-variants.{FileLength, FileHead, FileRecords, TableRoom, TermUnended, SectionMark, NumberRange, TypeNew, TermEnded, Counts, EntryLaid, OneTerm, ByteRoom}
+use Rattle.calculus.specs.declared.refusal.Question.the-variants.{FileLength, FileHead, FileRecords, TableRoom, TermUnended, SectionMark, NumberRange, TypeNew, TermEnded, Counts, EntryLaid, OneTerm, ByteRoom, VersionRoom, LineRoom, ProfileDigit, LineLegal, LineNew}
 use Rattle.calculus.specs.declared.refusal.Refusal.{Refusal}
 use Rattle.calculus.specs.declared.refusal.Report.{Report}
 
 abbrev pub layer-number : Layer → ℕ
 layer-number File = 1
+layer-number Host = 4
 
 abbrev pub question-numbers : Question → ℕ × ℕ × ℕ
 question-numbers FileLength = (1, 0, 0)
@@ -28,6 +29,11 @@ question-numbers Counts = (10, 0, 0)
 question-numbers (EntryLaid p) = (12, p, 0)
 question-numbers (OneTerm p) = (13, p, 0)
 question-numbers ByteRoom = (14, 0, 0)
+question-numbers VersionRoom = (40, 0, 0)
+question-numbers LineRoom = (41, 0, 0)
+question-numbers (ProfileDigit p) = (42, p, 0)
+question-numbers (LineLegal p) = (43, p, 0)
+question-numbers (LineNew p) = (44, p, 0)
 
 abbrev pub report-of : Refusal → Report
 report-of r = record {

@@ -7,10 +7,12 @@ ghost use Rattle.calculus.specs.Refusals.{layer-number, question-numbers, repo
 pub enum Layer {
     // load and write
     File,
+    // making hosts
+    Host,
 }
 
 // A question that a call puts, in the order of their numbers. A case holds its place where it has one: places count
-// from 0, records in a file, entries in a type table, nodes in a term.
+// from 0, records in a file, entries in a type table, nodes in a term, digits in a profile, lines in a sheet.
 #[derive(Clone, Copy, PartialEq, Eq, Debug)]
 pub enum Question {
     // 1: is the file's length a positive multiple of 6?
@@ -39,6 +41,16 @@ pub enum Question {
     OneTerm { place: u16 },
     // 14: is the byte list long enough?
     ByteRoom,
+    // 40: has the listing at most 200 versions?
+    VersionRoom,
+    // 41: has the sheet at most 1,024 lines?
+    LineRoom,
+    // 42: is each digit of the profile at most 4?
+    ProfileDigit { place: u16 },
+    // 43: is the line's question there, its number at most 4,095 and its answer legal?
+    LineLegal { place: u16 },
+    // 44: is no earlier line for the same question and number?
+    LineNew { place: u16 },
 }
 
 // A refusal: nothing else ends a call without its result.
@@ -76,6 +88,7 @@ fn layer_number(layer: Layer) -> u8
 {
     match layer {
         Layer::File => 1,
+        Layer::Host => 4,
     }
 }
 
@@ -97,5 +110,10 @@ fn numbers(question: Question) -> (u8, u16, u8)
         Question::EntryLaid { place } => (12, place, 0),
         Question::OneTerm { place } => (13, place, 0),
         Question::ByteRoom => (14, 0, 0),
+        Question::VersionRoom => (40, 0, 0),
+        Question::LineRoom => (41, 0, 0),
+        Question::ProfileDigit { place } => (42, place, 0),
+        Question::LineLegal { place } => (43, place, 0),
+        Question::LineNew { place } => (44, place, 0),
     }
 }

@@ -5,6 +5,10 @@ use crate::failure::FailureFromRefused;
 use crate::messages::RefusalLine;
 use crate::messages::RefusalLineDisplay;
 use crate::rule::Rule;
+use crate::text::Position;
+use crate::text::Text;
+use crate::text::at_word;
+use crate::text::without_comment;
 use crate::words::EntryWorded;
 use crate::words::NodeWorded;
 use crate::words::WordError;
@@ -20,20 +24,6 @@ use std::alloc::Global;
 use std::alloc::Refused;
 use std::fmt;
 use types::table::GIVEN;
-
-// A text and its name, for messages.
-#[derive(Clone, Copy)]
-pub struct Text<'a> {
-    pub name: &'a str,
-    pub text: &'a str,
-}
-
-// Where a word stands: its line, and its place among the words of the line, each from 0.
-#[derive(Clone, Copy)]
-struct Position {
-    line: usize,
-    word: usize,
-}
 
 // The words read so far, and where each stands: the types' positions and then the nodes'.
 #[derive(Drop)]
@@ -139,50 +129,7 @@ impl Assembly {
     }
 }
 
-// The line up to its comment.
-fn without_comment(line: &str) -> &str {
-    match line.split_once('#') {
-        Some((words, _)) => words,
-        None => line,
-    }
-}
-
-// The message about a word: the text's name, the word's line and column from 1, the word, and why.
-fn at_word(
-    heap: Global,
-    text: Text<'_>,
-    position: Position,
-    why: impl fmt::Display + Drop,
-) -> Result<Failure, AllocError> {
-    let name = text.name;
-    let line = text.text.lines().nth(position.line).unwrap_or("");
-    let column = column_of(line, position.word);
-    let word = without_comment(line)
-        .split_whitespace()
-        .nth(position.word)
-        .unwrap_or("");
-    let number = position.line.saturating_add(1);
-    Ok(Failure::Message(format!(heap, "{name}:{number}:{column}: {word}: {why}")?))
-}
-
-// The column, in characters from 1, at which a word of the line begins.
-fn column_of(line: &str, word: usize) -> usize {
-    let mut begun = 0usize;
-    let mut inside = false;
-    for (i, c) in line.chars().enumerate() {
-        let dark = !c.is_whitespace();
-        if dark && !inside {
-            if begun == word {
-                return i.saturating_add(1);
-            }
-            begun = begun.saturating_add(1);
-        }
-        inside = dark;
-    }
-    1
-}
-
-// The message about a refusal, at the word that it is about where there is one.
+// The message about a refusal, at the word that it is about, or at the end of the text.
 fn refused(
     heap: Global,
     text: Text<'_>,
@@ -196,10 +143,9 @@ fn refused(
     let name = text.name;
     let types = assembly.rule.types.len();
     let nodes = assembly.rule.nodes.len();
-    Ok(Failure::Message(
-        format!(
-            heap,
-            "{name}: {nodes} nodes and {types} types, the given six among them: {line}"
-        )?,
-    ))
+    let message = format!(
+        heap,
+        "{name}: at the end, after {types} types, the given six among them, and {nodes} nodes: {line}"
+    )?;
+    Ok(Failure::Message(message))
 }

@@ -1,13 +1,23 @@
 // The commands of a script, one a line, and why a line cannot be read.
+ghost use mathlib.Core.Path.{_≡_};
+ghost use Rattle.console.specs.declared.command.LineError.the-variants.{Memory};
 use crate::hexadecimal::bytes_of;
+use crate::host_words::LineWorded;
+use crate::host_words::VersionWorded;
+use crate::host_words::profile_of;
 use crate::words::EntryWorded;
+use crate::words::Length;
+use crate::words::LengthWorded;
 use crate::words::NodeWorded;
 use crate::words::WordError;
 use crate::words::WordErrorDisplay;
 use crate::words::Worded;
 use crate::words::decimal;
+use crate::words::small_number;
 use calculus::entry::Entry;
 use calculus::node::Node;
+use hosts::line::Line;
+use hosts::version::Version;
 use std::alloc::AllocError;
 use std::alloc::Global;
 use std::alloc::Refused;
@@ -25,6 +35,10 @@ pub enum Command {
     Count(usize),
     Write,
     Dump(Table),
+    Listing { today: u16, versions: Vec<Version> },
+    Sheet { profile: u32, lines: Vec<Line> },
+    Profile,
+    Ask { question: u16, number: u16 },
 }
 
 // How long new tables are.
@@ -44,8 +58,6 @@ pub enum Table {
     Bytes,
 }
 
-const MOST: usize = 1_000_000;
-
 // Why a line is answered with an error.
 #[derive(Clone, Copy)]
 pub enum LineError<'a> {
@@ -54,10 +66,12 @@ pub enum LineError<'a> {
     Unknown(&'a str),
     Usage(&'static str),
     Word { word: &'a str, error: WordError },
-    TableShort { entries: usize, needed: usize },
+    NoEntry { place: usize, entries: usize },
 }
 
 pub impl<'a> From<AllocError> for LineError<'a> as LineErrorFromAlloc {
+    ghost converts = { λ _ r. r ≡ Memory };
+
     fn from(_e: AllocError) -> LineError<'a> {
         LineError::Memory
     }
@@ -76,14 +90,16 @@ pub impl fmt::Display for LineError<'_> as LineErrorDisplay {
             LineError::NotText => f.write_str("the line is not UTF-8 text"),
             LineError::Unknown(name) => write!(
                 f,
-                "{name}: unknown; the commands are tables, file, load, nodes, types, entry, count, write and dump"
+                "{name}: unknown; the commands are tables, file, load, nodes, types, entry, count, write, dump, listing, sheet, profile and ask"
             ),
-            LineError::Usage(usage) => write!(f, "write {usage}"),
+            LineError::Usage(usage) => write!(f, "expected {usage}"),
             LineError::Word { word, error } => write!(f, "{word}: {error}"),
-            LineError::TableShort { entries, needed } => write!(
-                f,
-                "the type table has {entries} entries, and {needed} are needed"
-            ),
+            LineError::NoEntry { place, entries } => {
+                write!(
+                    f,
+                    "there is no entry {place}: the type table has {entries} entries"
+                )
+            }
         }
     }
 }
@@ -98,15 +114,19 @@ pub fn command_of<'a>(heap: Global, line: &'a str) -> Result<Option<Command>, Li
         return Ok(None);
     }
     let command = match name {
-        "tables" => Command::Tables(lengths_of(words)?),
+        "tables" => Command::Tables(lengths_of(heap, words)?),
         "file" => Command::File(file_of(heap, words)?),
-        "load" => alone(words, Command::Load, "load alone")?,
+        "load" => alone(words, Command::Load, "load and no more")?,
         "nodes" => Command::Nodes(all_of(heap, words)?),
         "types" => Command::Types(all_of(heap, words)?),
         "entry" => entry_of(words)?,
         "count" => Command::Count(number_of(words, "count K")?),
-        "write" => alone(words, Command::Write, "write alone")?,
+        "write" => alone(words, Command::Write, "write and no more")?,
         "dump" => Command::Dump(table_of(words)?),
+        "listing" => listing_of(heap, words)?,
+        "sheet" => sheet_of(heap, words)?,
+        "profile" => alone(words, Command::Profile, "profile and no more")?,
+        "ask" => ask_of(words)?,
         _ => return Err(LineError::Unknown(name)),
     };
     Ok(Some(command))
@@ -142,27 +162,16 @@ fn number_of(words: SplitWhitespace<'_>, usage: &'static str) -> Result<usize, L
     }
 }
 
-fn lengths_of(mut words: SplitWhitespace<'_>) -> Result<Lengths, LineError<'static>> {
-    let wrong = LineError::Usage("tables NODES TYPES SCRATCH BYTES, each at most 1000000");
-    let mut lengths = [0; 4];
-    for length in lengths.iter_mut() {
-        let Some(word) = words.next() else {
-            return Err(wrong);
-        };
-        match decimal(word) {
-            Some(number) if number <= MOST => *length = number,
-            _ => return Err(wrong),
-        }
-    }
-    if words.next().is_some() {
-        return Err(wrong);
-    }
-    let [nodes, types, scratch, bytes] = lengths;
+fn lengths_of<'a>(heap: Global, words: SplitWhitespace<'a>) -> Result<Lengths, LineError<'a>> {
+    let lengths: Vec<Length> = all_of(heap, words)?;
+    let [nodes, types, scratch, bytes] = lengths.as_slice() else {
+        return Err(LineError::Usage("tables NODES TYPES SCRATCH BYTES"));
+    };
     Ok(Lengths {
-        nodes,
-        types,
-        scratch,
-        bytes,
+        nodes: nodes.0,
+        types: types.0,
+        scratch: scratch.0,
+        bytes: bytes.0,
     })
 }
 
@@ -178,7 +187,7 @@ fn file_of(heap: Global, mut words: SplitWhitespace<'_>) -> Result<Vec<u8>, Line
     }
 }
 
-// Every word as a node or as an entry.
+// What every word says.
 fn all_of<'a, T: Worded + Drop>(
     heap: Global,
     words: SplitWhitespace<'a>,
@@ -215,5 +224,45 @@ fn table_of(words: SplitWhitespace<'_>) -> Result<Table, LineError<'static>> {
         "scratch" => Ok(Table::Scratch),
         "bytes" => Ok(Table::Bytes),
         _ => Err(LineError::Usage(usage)),
+    }
+}
+
+fn listing_of<'a>(heap: Global, mut words: SplitWhitespace<'a>) -> Result<Command, LineError<'a>> {
+    let Some(word) = words.next() else {
+        return Err(LineError::Usage("listing TODAY [PUBLISHED/WITHDRAWN/LINE/PATCH ..]"));
+    };
+    match small_number(word) {
+        Ok(today) => Ok(Command::Listing {
+            today,
+            versions: all_of(heap, words)?,
+        }),
+        Err(error) => Err(LineError::Word { word, error }),
+    }
+}
+
+fn sheet_of<'a>(heap: Global, mut words: SplitWhitespace<'a>) -> Result<Command, LineError<'a>> {
+    let usage = LineError::Usage(
+        "sheet PROFILE [QUESTION/NUMBER/A/B ..], the profile as 8 hexadecimal digits",
+    );
+    let Some(word) = words.next() else {
+        return Err(usage);
+    };
+    match profile_of(word) {
+        Some(profile) => Ok(Command::Sheet {
+            profile,
+            lines: all_of(heap, words)?,
+        }),
+        None => Err(usage),
+    }
+}
+
+fn ask_of(mut words: SplitWhitespace<'_>) -> Result<Command, LineError<'static>> {
+    let usage = LineError::Usage("ask QUESTION NUMBER, each at most 65535");
+    let (Some(question), Some(number), None) = (words.next(), words.next(), words.next()) else {
+        return Err(usage);
+    };
+    match (small_number(question), small_number(number)) {
+        (Ok(question), Ok(number)) => Ok(Command::Ask { question, number }),
+        _ => Err(usage),
     }
 }

@@ -24,6 +24,11 @@ pub fn question_numbered(number: usize) -> Option<Question>
         12 => Some(Question::EntryLaid { place: 0 }),
         13 => Some(Question::OneTerm { place: 0 }),
         14 => Some(Question::ByteRoom),
+        40 => Some(Question::VersionRoom),
+        41 => Some(Question::LineRoom),
+        42 => Some(Question::ProfileDigit { place: 0 }),
+        43 => Some(Question::LineLegal { place: 0 }),
+        44 => Some(Question::LineNew { place: 0 }),
         _ => None,
     }
 }
@@ -39,7 +44,7 @@ pub fn needed(question: Question) -> &'static str {
         Question::TableRoom =>
             "with T type records and N nodes, N nodes and 6 + T + N entries must fit into the tables",
         Question::TermUnended { .. } =>
-            "there must be one term, and it has ended before this record",
+            "a node record must belong to the one term, which has ended before this record",
         Question::SectionMark { .. } =>
             "a type record must have the mark TF, TP or TS, and a node record one of VA ZE SU RE LA AP TR PA FS SN AB IL IR CA QU",
         Question::NumberRange { .. } =>
@@ -55,6 +60,12 @@ pub fn needed(question: Question) -> &'static str {
             "the nodes must be one term, with type numbers below the count, indexes below 4096, query numbers below 8, all else 0",
         Question::ByteRoom =>
             "a byte list of 6 bytes for the head, each type record and each node is needed",
+        Question::VersionRoom => "a listing must have at most 200 versions",
+        Question::LineRoom => "a sheet must have at most 1024 lines",
+        Question::ProfileDigit { .. } => "each digit of the profile must be 0 to 4",
+        Question::LineLegal { .. } =>
+            "the profile must have the line's question, its number must be at most 4095, and a and b must be an answer of the question's shape with numbers at most 255",
+        Question::LineNew { .. } => "no earlier line may be for the same question and number",
     }
 }
 
@@ -74,74 +85,105 @@ fn details(question: Question) -> &'static str {
         Question::EntryLaid { .. } => ENTRY_LAID,
         Question::OneTerm { .. } => ONE_TERM,
         Question::ByteRoom => BYTE_ROOM,
+        Question::VersionRoom => VERSION_ROOM,
+        Question::LineRoom => LINE_ROOM,
+        Question::ProfileDigit { .. } => PROFILE_DIGIT,
+        Question::LineLegal { .. } => LINE_LEGAL,
+        Question::LineNew { .. } => LINE_NEW,
     }
 }
 
 const FILE_LENGTH: &str = "Is the file's length a positive multiple of 6?\n\
     Asked by load, first of all.\n\
-    A no: The file is empty, or it does not end with a whole record of six bytes.\n\
-    Then: See that this is a rule file and that it was not cut short; assemble makes one from text.";
+    A no means: The file is empty, or it does not end with a whole record of six bytes.\n\
+    What to do: See that this is a rule file and that it was not cut short; assemble makes one from text.";
 
 const FILE_HEAD: &str = "Is the head RU with at most 1,024 type records and 1 to 4,096 nodes?\n\
     Asked by load, of the first record.\n\
-    A no: The first two bytes are not RU, or one of the two counts after them is out of bounds.\n\
-    Then: See that this is a rule file; a larger rule has to be cut into smaller ones.";
+    A no means: The first two bytes are not RU, or one of the two counts after them is out of bounds.\n\
+    What to do: See that this is a rule file; a larger rule has to be cut into smaller ones.";
 
 const FILE_RECORDS: &str = "Is the file as long as its head says?\n\
     Asked by load, after the head.\n\
-    A no: With T type records and N nodes in the head, the length is not 6 × (1 + T + N).\n\
-    Then: See that the file was not cut short or joined with another, and that the head has the right counts.";
+    A no means: With T type records and N nodes in the head, the length is not 6 × (1 + T + N).\n\
+    What to do: See that the file was not cut short or joined with another, and that the head has the right counts.";
 
 const TABLE_ROOM: &str = "Are the tables long enough?\n\
     Asked by load, after the file's length.\n\
-    A no: The node table has fewer than N places, or the type table fewer than 6 + T + N.\n\
-    Then: Lend longer tables; 4,096 nodes and 5,126 entries serve every file.";
+    A no means: The node table has fewer than N places, or the type table fewer than 6 + T + N.\n\
+    What to do: Lend longer tables; 4,096 nodes and 5,126 entries serve every file.";
 
 const TERM_UNENDED: &str = "Is the one term still unended at this node record?\n\
     Asked by load, of each node record; the place is the record, and the head is record 0.\n\
-    A no: Every node before this record has all its children, so this one belongs to no term.\n\
-    Then: Take away the records from here on, or correct a node before it that should have more children.";
+    A no means: Every node before this record has all its children, so this one belongs to no term.\n\
+    What to do: Take away the records from here on, or correct a node before it that should have more children.";
 
 const SECTION_MARK: &str = "Is the record's mark one of its section?\n\
     Asked by load, of each record after the head; the place is the record, and the head is record 0.\n\
-    A no: A type record or a node record begins with two other bytes.\n\
-    Then: Correct the mark, or the counts in the head if the record belongs to the other section.";
+    A no means: A type record or a node record begins with two other bytes.\n\
+    What to do: Correct the mark, or the counts in the head if the record belongs to the other section.";
 
 const NUMBER_RANGE: &str = "Are the record's numbers in range?\n\
     Asked by load, of each record after the head; the place is the record, and the head is record 0.\n\
-    A no: A type record names its own type or a later one, a node names no type of the table, an index or a query is too large, or a number that means nothing is not 0.\n\
-    Then: Correct the number; a type has to stand before the types that it is a part of.";
+    A no means: A type record names its own type or a later one, a node names no type of the table, an index or a query is too large, or a number that means nothing is not 0.\n\
+    What to do: Correct the number; a type has to stand before the types that it is a part of.";
 
 const TYPE_NEW: &str = "Is the type record's type new?\n\
     Asked by load, of each type record; the place is the record, and the head is record 0.\n\
-    A no: One of the given six entries or an earlier type record is the same type.\n\
-    Then: Take the record away, and name the earlier entry's number in its place.";
+    A no means: One of the given six entries or an earlier type record is the same type.\n\
+    What to do: Take the record away, and name the earlier entry's number in its place.";
 
 const TERM_ENDED: &str = "Is the term ended after the last record?\n\
     Asked by load, after the last record; the place is the number of records.\n\
-    A no: A node lacks a child.\n\
-    Then: Add the missing nodes, and raise the count in the head.";
+    A no means: A node lacks a child.\n\
+    What to do: Add the missing nodes, and raise the count in the head.";
 
 const COUNTS: &str =
     "Are there 1 to 4,096 nodes, and is the count from 6 to 1,030 and within the table?\n\
     Asked by write, first of all.\n\
-    A no: There is no node or there are too many, or the count leaves out a given entry or passes the end of the table.\n\
-    Then: Give the nodes of one rule, and count the given six entries too.";
+    A no means: There is no node or there are too many, or the count leaves out a given entry or passes the end of the table.\n\
+    What to do: Give the nodes of one rule, and count the given six entries too.";
 
 const ENTRY_LAID: &str = "Is each entry below the count as a type table lays it down?\n\
     Asked by write, of each entry below the count; the place is the first entry at fault.\n\
-    A no: An entry is blank or of another form, differs from the given one, names itself or a later entry, or equals an earlier one.\n\
-    Then: Correct the entry, or lower the count.";
+    A no means: An entry is blank or of another form, differs from the given one, names itself or a later entry, or equals an earlier one.\n\
+    What to do: Correct the entry, or lower the count.";
 
 const ONE_TERM: &str = "Are the nodes exactly one term, with numbers in range?\n\
     Asked by write, of the nodes; the place is the first node at fault, or the number of nodes where the term is not ended.\n\
-    A no: A node is blank, has a number out of range or follows the end of the term, or the term lacks a node at its end.\n\
-    Then: Correct the node there, add the missing nodes, or take away those past the end of the term.";
+    A no means: A node is blank, has a number out of range or follows the end of the term, or the term lacks a node at its end.\n\
+    What to do: Correct the node there, add the missing nodes, or take away those past the end of the term.";
 
 const BYTE_ROOM: &str = "Is the byte list long enough?\n\
     Asked by write, last of all.\n\
-    A no: The rule does not fit into the byte list.\n\
-    Then: Lend a longer byte list; 30,726 bytes serve every rule.";
+    A no means: The rule does not fit into the byte list.\n\
+    What to do: Lend a longer byte list; 30,726 bytes serve every rule.";
+
+const VERSION_ROOM: &str = "Has the listing at most 200 versions?\n\
+    Asked where a listing is made.\n\
+    A no means: There are more versions than a listing can have.\n\
+    What to do: Leave out versions that no build may see.";
+
+const LINE_ROOM: &str = "Has the sheet at most 1,024 lines?\n\
+    Asked where a sheet is made, first of all.\n\
+    A no means: There are more lines than a sheet can have.\n\
+    What to do: Leave out lines that say what a sheet answers without them: 0, no, absent or (0, 0).";
+
+const PROFILE_DIGIT: &str = "Is each digit of the profile at most 4?\n\
+    Asked where a sheet is made; the place is the first digit at fault, and the lowest is digit 0.\n\
+    A no means: A hexadecimal digit stands for no shape of answers.\n\
+    What to do: Write 0 for no such question, 1 for a number, 2 for a flag, 3 for a maybe, 4 for a pair.";
+
+const LINE_LEGAL: &str =
+    "Is the line's question there, its number at most 4,095 and its answer legal?\n\
+    Asked where a sheet is made, of each line; the place is the line.\n\
+    A no means: The profile has no such question, the number is too large, or a and b are no answer of its shape.\n\
+    What to do: A number is a with b 0; a flag is 0 or 1 with b 0; a maybe is 0 and 0, or 1 and the number; a pair is a and b; numbers are at most 255.";
+
+const LINE_NEW: &str = "Is no earlier line for the same question and number?\n\
+    Asked where a sheet is made, of each line; the place is the line.\n\
+    A no means: Two lines answer the same question at the same number.\n\
+    What to do: Take one of them away.";
 
 // A refusal in one line: layer, number, place and child, and what was needed.
 #[derive(Clone, Copy)]

@@ -14,11 +14,13 @@ use rule_file::write::write;
 use std::alloc::AllocError;
 use std::alloc::Global;
 
-// Table lengths that serve every file: 4,096 nodes, and the given six entries with 1,024 more and one for each node.
+// Tables of these lengths serve every file.
 const MOST_NODES: usize = 4096;
 
+// The given six, 1,024 type records, and as many more as there are nodes.
 const MOST_ENTRIES: usize = 5126;
-// The length of the longest file: six bytes for the head, 1,024 type records and 4,096 nodes.
+
+// The longest file: six bytes for the head, for each of 1,024 type records and for each of 4,096 nodes.
 const MOST_BYTES: usize = 30_726;
 
 // The nodes of a term, and the type table that it uses, the given six entries among them.

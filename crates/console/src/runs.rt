@@ -9,30 +9,31 @@ use calculus::node::Node;
 use calculus::node::NodePartialEq;
 use std::fmt;
 
-// What a table may hold, with its word.
-pub trait Cell: Copy + PartialEq<Self> {
+// What a table may hold.
+pub trait TableItem: Copy + PartialEq<Self> {
+    // Writes the word that stands for it.
     fn write_word<W: fmt::Write>(&self, f: &mut fmt::Formatter<W>) -> fmt::Result;
 }
 
-pub impl Cell for Node as NodeCell {
+pub impl TableItem for Node as NodeItem {
     fn write_word<W: fmt::Write>(&self, f: &mut fmt::Formatter<W>) -> fmt::Result {
         write!(f, "{}", NodeWord(*self))
     }
 }
 
-pub impl Cell for Entry as EntryCell {
+pub impl TableItem for Entry as EntryItem {
     fn write_word<W: fmt::Write>(&self, f: &mut fmt::Formatter<W>) -> fmt::Result {
         write!(f, "{}", EntryWord(*self))
     }
 }
 
-pub impl Cell for u32 as NumberCell {
+pub impl TableItem for u32 as NumberItem {
     fn write_word<W: fmt::Write>(&self, f: &mut fmt::Formatter<W>) -> fmt::Result {
         write!(f, "{}", *self)
     }
 }
 
-pub impl Cell for u8 as ByteCell {
+pub impl TableItem for u8 as ByteItem {
     fn write_word<W: fmt::Write>(&self, f: &mut fmt::Formatter<W>) -> fmt::Result {
         write!(f, "{:02x}", *self)
     }
@@ -40,9 +41,9 @@ pub impl Cell for u8 as ByteCell {
 
 // A table shown as its words, a space before each; `WORD*K` stands for K equal ones in a row.
 #[derive(Drop)]
-pub struct Runs<'a, T: Cell>(pub &'a [T]);
+pub struct Runs<'a, T: TableItem>(pub &'a [T]);
 
-pub impl<T: Cell> fmt::Display for Runs<'_, T> as RunsDisplay {
+pub impl<T: TableItem> fmt::Display for Runs<'_, T> as RunsDisplay {
     fn fmt<W: fmt::Write>(&self, f: &mut fmt::Formatter<W>) -> fmt::Result {
         let mut run: Option<(T, usize)> = None;
         for x in self.0 {
@@ -62,7 +63,11 @@ pub impl<T: Cell> fmt::Display for Runs<'_, T> as RunsDisplay {
     }
 }
 
-fn write_run<T: Cell, W: fmt::Write>(f: &mut fmt::Formatter<W>, x: T, n: usize) -> fmt::Result {
+fn write_run<T: TableItem, W: fmt::Write>(
+    f: &mut fmt::Formatter<W>,
+    x: T,
+    n: usize,
+) -> fmt::Result {
     f.write_str(" ")?;
     x.write_word(f)?;
     if n == 1 {

@@ -1,11 +1,13 @@
 // The script interpreter: reads commands, one a line, and prints a line for each.
 use crate::command::LineError;
 use crate::command::LineErrorDisplay;
-use crate::command::LineErrorFromAlloc;
 use crate::command::command_of;
 use crate::failure::Failure;
 use crate::failure::FailureFromAlloc;
 use crate::failure::FailureFromSystem;
+use crate::session::Answer;
+use crate::session::AnswerLine;
+use crate::session::AnswerLineDisplay;
 use crate::session::Session;
 use std::alloc::Global;
 use std::io;
@@ -55,7 +57,7 @@ pub fn play<R: Read + Drop>(rt: &LibcRuntime, input: R) -> Result<(), Failure> {
 fn answer_to(heap: Global, session: &mut Session, line: &[u8]) -> Result<Option<String>, Failure> {
     match result_of(heap, session, line) {
         Ok(None) => Ok(None),
-        Ok(Some(answer)) => Ok(Some(format!(heap, "{answer}\n")?)),
+        Ok(Some(answer)) => Ok(Some(format!(heap, "{}\n", AnswerLine { session, answer })?)),
         Err(LineError::Memory) => Err(Failure::Memory),
         Err(error) => Ok(Some(format!(heap, "error: {error}\n")?)),
     }
@@ -65,7 +67,7 @@ fn result_of<'a>(
     heap: Global,
     session: &mut Session,
     line: &'a [u8],
-) -> Result<Option<String>, LineError<'a>> {
+) -> Result<Option<Answer>, LineError<'a>> {
     let Ok(line) = std::str::from_utf8(line) else {
         return Err(LineError::NotText);
     };

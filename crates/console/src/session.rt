@@ -1,28 +1,40 @@
 // The state of a script, and what each command does to it.
+ghost use mathlib.Core.Path.{_≡_};
+ghost use lib.ListN.{replicate};
+ghost use Rattle.std.specs.Of.Vec.{vec-items};
+ghost use Rattle.std.specs.Results.{Cases};
+ghost use Rattle.std.specs.Vec.{made};
+ghost use Rattle.console.specs.declared.command.LineError.the-variants.{Memory};
 use crate::command::Command;
 use crate::command::Lengths;
 use crate::command::LineError;
 use crate::command::LineErrorFromAlloc;
-use crate::command::LineErrorFromRefused;
 use crate::command::Table;
 use crate::hexadecimal::Hex;
 use crate::hexadecimal::HexDisplay;
+use crate::host_data::HostData;
+use crate::host_words::AnswerWords;
+use crate::host_words::AnswerWordsDisplay;
 use crate::messages::RefusalLine;
 use crate::messages::RefusalLineDisplay;
-use crate::runs::ByteCell;
-use crate::runs::EntryCell;
-use crate::runs::NodeCell;
-use crate::runs::NumberCell;
+use crate::runs::ByteItem;
+use crate::runs::EntryItem;
+use crate::runs::NodeItem;
+use crate::runs::NumberItem;
 use crate::runs::Runs;
 use crate::runs::RunsDisplay;
+use calculus::answer::Answer as HostAnswer;
 use calculus::entry::Entry;
 use calculus::form::Form;
 use calculus::kind::Kind;
 use calculus::node::Node;
 use calculus::refusal::Refusal;
+use rule_file::load::Loaded;
 use rule_file::load::load;
 use rule_file::write::write;
+use std::alloc::AllocError;
 use std::alloc::Global;
+use std::fmt;
 use types::table::GIVEN;
 
 // What new tables hold, so that a call that leaves a place alone can be seen to.
@@ -54,10 +66,26 @@ pub struct Session {
     rule: usize,
     // how many entries of the type table are said to be in use
     count: usize,
+    host: HostData,
 }
 
-// The line that answers a command.
-type Answer = Result<String, LineError<'static>>;
+// The answer to a command. What it shows of the tables is what they hold then.
+#[derive(Clone, Copy)]
+pub enum Answer {
+    Tables(Lengths),
+    File(usize),
+    Loaded(Loaded),
+    Nodes(usize),
+    Types(usize),
+    Entry(usize),
+    Count(usize),
+    Wrote(usize),
+    Dump(Table),
+    Made(usize),
+    Profile(u32),
+    Said(Option<HostAnswer>),
+    Refused(Refusal),
+}
 
 impl Session {
     pub fn new(heap: Global) -> Session {
@@ -70,100 +98,121 @@ impl Session {
             bytes: Vec::new(heap),
             rule: 0,
             count: 0,
+            host: HostData::new(heap),
         }
     }
 
-    // Does what a command says, and answers it. An error leaves the state as it was, unless memory ran out.
-    pub fn perform(&mut self, command: Command) -> Answer {
+    // Does what a command says. An error leaves the state as it was, unless memory ran out.
+    pub fn perform(&mut self, command: Command) -> Result<Answer, LineError<'static>>
+        ensures kept { λ r. ⌜ Cases r (λ _. Unit {0}) (λ e. (e ≡ Memory → ⊥) → now (self .exit) ≡ now (self .entry)) ⌝ }
+    {
         match command {
             Command::Tables(lengths) => self.make_tables(lengths),
-            Command::File(bytes) => self.set_file(bytes),
-            Command::Load => self.load(),
-            Command::Nodes(nodes) => self.set_nodes(nodes),
+            Command::File(bytes) => Ok(self.set_file(bytes)),
+            Command::Load => Ok(self.load()),
+            Command::Nodes(nodes) => Ok(self.set_nodes(nodes)),
             Command::Types(entries) => self.set_types(entries.as_slice()),
             Command::Entry { place, entry } => self.set_entry(place, entry),
-            Command::Count(count) => self.set_count(count),
-            Command::Write => self.write(),
-            Command::Dump(table) => self.dump(table),
+            Command::Count(count) => Ok(self.set_count(count)),
+            Command::Write => Ok(self.write()),
+            Command::Dump(table) => Ok(Answer::Dump(table)),
+            Command::Listing { today, versions } => Ok(self.set_host(HostData::Listing {
+                today,
+                versions,
+            })),
+            Command::Sheet { profile, lines } => Ok(self.set_host(HostData::Sheet {
+                profile,
+                lines,
+            })),
+            Command::Profile => Ok(Answer::Profile(self.host.profile())),
+            Command::Ask { question, number } => Ok(Answer::Said(self.host.ask(question, number))),
         }
     }
 
-    fn make_tables(&mut self, lengths: Lengths) -> Answer {
-        let Lengths {
-            nodes,
-            types,
-            scratch,
-            bytes,
-        } = lengths;
-        self.nodes = vec![in self.heap; NODE_FILLER; nodes]?;
-        self.types = vec![in self.heap; ENTRY_FILLER; types]?;
-        self.scratch = vec![in self.heap; NUMBER_FILLER; scratch]?;
-        self.bytes = vec![in self.heap; BYTE_FILLER; bytes]?;
+    fn make_tables(&mut self, lengths: Lengths) -> Result<Answer, LineError<'static>>
+        ensures error { λ r. ⌜ Cases r (λ _. Unit {0}) (λ e. e ≡ Memory) ⌝ }
+    {
+        refill(&mut self.nodes, NODE_FILLER, lengths.nodes)?;
+        refill(&mut self.types, ENTRY_FILLER, lengths.types)?;
+        refill(&mut self.scratch, NUMBER_FILLER, lengths.scratch)?;
+        refill(&mut self.bytes, BYTE_FILLER, lengths.bytes)?;
         self.rule = 0;
         self.count = 0;
-        Ok(format!(self.heap, "tables {nodes} {types} {scratch} {bytes}")?)
+        Ok(Answer::Tables(lengths))
     }
 
     fn set_file(&mut self, bytes: Vec<u8>) -> Answer {
-        let length = bytes.len();
         self.file = bytes;
-        Ok(format!(self.heap, "file {length}")?)
+        Answer::File(self.file.len())
     }
 
     fn load(&mut self) -> Answer {
-        let heap = self.heap;
         match load(
             self.file.as_slice(),
             self.nodes.as_mut_slice(),
             self.types.as_mut_slice(),
         ) {
             Ok(loaded) => {
-                let (rule, count) = (loaded.nodes, loaded.count);
-                self.rule = rule;
-                self.count = count;
-                Ok(format!(heap, "loaded {rule} {count}")?)
+                self.rule = loaded.nodes;
+                self.count = loaded.count;
+                Answer::Loaded(loaded)
             }
-            Err(refusal) => refused(heap, refusal),
+            Err(refusal) => Answer::Refused(refusal),
         }
     }
 
     fn set_nodes(&mut self, nodes: Vec<Node>) -> Answer {
-        let rule = nodes.len();
         self.nodes = nodes;
-        self.rule = rule;
-        Ok(format!(self.heap, "nodes {rule}")?)
+        self.rule = self.nodes.len();
+        Answer::Nodes(self.rule)
     }
 
-    fn set_types(&mut self, later: &[Entry]) -> Answer {
+    fn set_types(&mut self, later: &[Entry]) -> Result<Answer, LineError<'static>>
+        ensures kept { λ r. ⌜ Cases r (λ _. Unit {0}) (λ _. now (self .exit) ≡ now (self .entry)) ⌝ }
+    {
         let entries = self.types.len();
-        let needed = later.len().saturating_add(6);
-        if entries < needed {
-            return Err(LineError::TableShort { entries, needed });
+        let count = later.len().saturating_add(6);
+        if entries < count {
+            return Err(LineError::NoEntry {
+                place: count - 1,
+                entries,
+            });
         }
         let types = self.types.as_mut_slice();
         types[0..6].copy_from_slice(&GIVEN);
-        types[6..needed].copy_from_slice(later);
-        self.count = needed;
-        Ok(format!(self.heap, "types {needed}")?)
+        types[6..count].copy_from_slice(later);
+        self.count = count;
+        Ok(Answer::Types(count))
     }
 
-    fn set_entry(&mut self, place: usize, entry: Entry) -> Answer {
+    fn set_entry(&mut self, place: usize, entry: Entry) -> Result<Answer, LineError<'static>>
+        ensures kept { λ r. ⌜ Cases r (λ _. Unit {0}) (λ _. now (self .exit) ≡ now (self .entry)) ⌝ }
+    {
         let entries = self.types.len();
         if place >= entries {
-            let needed = place.saturating_add(1);
-            return Err(LineError::TableShort { entries, needed });
+            return Err(LineError::NoEntry { place, entries });
         }
         self.types[place] = entry;
-        Ok(format!(self.heap, "entry {place}")?)
+        Ok(Answer::Entry(place))
     }
 
     fn set_count(&mut self, count: usize) -> Answer {
         self.count = count;
-        Ok(format!(self.heap, "count {count}")?)
+        Answer::Count(count)
+    }
+
+    // A refusal leaves the host as it was.
+    fn set_host(&mut self, host: HostData) -> Answer {
+        match host.made() {
+            Ok(()) => {
+                self.host = host;
+                Answer::Made(self.host.len())
+            }
+            Err(refusal) => Answer::Refused(refusal),
+        }
     }
 
     fn write(&mut self) -> Answer {
-        let heap = self.heap;
         let rule = self.rule.min(self.nodes.len());
         let nodes = self.nodes.as_slice();
         match write(
@@ -172,27 +221,70 @@ impl Session {
             self.count,
             self.bytes.as_mut_slice(),
         ) {
-            Ok(length) => {
-                let bytes = self.bytes.as_slice();
-                let written = Hex(&bytes[0..length.min(bytes.len())]);
-                Ok(format!(heap, "wrote {length} {written}")?)
-            }
-            Err(refusal) => refused(heap, refusal),
+            Ok(length) => Answer::Wrote(length),
+            Err(refusal) => Answer::Refused(refusal),
         }
-    }
-
-    fn dump(&self, table: Table) -> Answer {
-        let line = match table {
-            Table::Nodes => format!(self.heap, "dump{}", Runs(self.nodes.as_slice())),
-            Table::Types => format!(self.heap, "dump{}", Runs(self.types.as_slice())),
-            Table::Scratch => format!(self.heap, "dump{}", Runs(self.scratch.as_slice())),
-            Table::Bytes => format!(self.heap, "dump{}", Runs(self.bytes.as_slice())),
-        };
-        Ok(line?)
     }
 }
 
-// The line that says why a call refused.
-fn refused(heap: Global, refusal: Refusal) -> Answer {
-    Ok(format!(heap, "{}", RefusalLine(refusal))?)
+// An answer shown as its line, over the state that it was given in.
+#[derive(Clone, Copy)]
+pub struct AnswerLine<'a> {
+    pub session: &'a Session,
+    pub answer: Answer,
+}
+
+pub impl fmt::Display for AnswerLine<'_> as AnswerLineDisplay {
+    fn fmt<W: fmt::Write>(&self, f: &mut fmt::Formatter<W>) -> fmt::Result {
+        match self.answer {
+            Answer::Tables(
+                Lengths {
+                    nodes,
+                    types,
+                    scratch,
+                    bytes,
+                },
+            ) => { write!(f, "tables {nodes} {types} {scratch} {bytes}") }
+            Answer::File(length) => write!(f, "file {length}"),
+            Answer::Loaded(Loaded { nodes, count }) => write!(f, "loaded {nodes} {count}"),
+            Answer::Nodes(rule) => write!(f, "nodes {rule}"),
+            Answer::Types(count) => write!(f, "types {count}"),
+            Answer::Entry(place) => write!(f, "entry {place}"),
+            Answer::Count(count) => write!(f, "count {count}"),
+            Answer::Wrote(length) => self.session.write_front(f, length),
+            Answer::Dump(table) => self.session.write_table(f, table),
+            Answer::Made(length) => self.session.host.write_made(f, length),
+            Answer::Profile(profile) => write!(f, "profile {profile:08x}"),
+            Answer::Said(answer) => write!(f, "{}", AnswerWords(answer)),
+            Answer::Refused(refusal) => write!(f, "{}", RefusalLine(refusal)),
+        }
+    }
+}
+
+impl Session {
+    // What write answers: a length, and so many bytes of the byte list.
+    fn write_front<W: fmt::Write>(&self, f: &mut fmt::Formatter<W>, length: usize) -> fmt::Result {
+        let bytes = self.bytes.as_slice();
+        let written = Hex(&bytes[0..length.min(bytes.len())]);
+        write!(f, "wrote {length} {written}")
+    }
+
+    // What a table holds.
+    fn write_table<W: fmt::Write>(&self, f: &mut fmt::Formatter<W>, table: Table) -> fmt::Result {
+        match table {
+            Table::Nodes => write!(f, "dump{}", Runs(self.nodes.as_slice())),
+            Table::Types => write!(f, "dump{}", Runs(self.types.as_slice())),
+            Table::Scratch => write!(f, "dump{}", Runs(self.scratch.as_slice())),
+            Table::Bytes => write!(f, "dump{}", Runs(self.bytes.as_slice())),
+        }
+    }
+}
+
+// Makes a table anew, of this length and with this in every place.
+fn refill<T: Copy>(table: &mut Vec<T>, filler: T, length: usize) -> Result<(), AllocError>
+    ensures { λ r. ⌜ made r (λ _. vec-items (now (table .exit)) ≡ replicate length filler) ⌝ }
+{
+    table.clear();
+    table.resize(length, filler)?;
+    Ok(())
 }

@@ -12,6 +12,9 @@ pub enum WordError {
     NumberMissing,
     NumbersMissing,
     Number,
+    Length,
+    Version,
+    Line,
 }
 
 pub impl fmt::Display for WordError as WordErrorDisplay {
@@ -23,6 +26,11 @@ pub impl fmt::Display for WordError as WordErrorDisplay {
                 WordError::NumberMissing => "a number must follow the mark, as in LA0",
                 WordError::NumbersMissing => "two type numbers must follow the mark, as in TF0/6",
                 WordError::Number => "a number has decimal digits alone, and is at most 65535",
+                WordError::Length => "a length has decimal digits alone, and is at most 1000000",
+                WordError::Version =>
+                    "a version has four numbers: published day, withdrawn day (0 for never), line, patch; days are at most 65535, line and patch at most 255",
+                WordError::Line =>
+                    "a line has four numbers, QUESTION/NUMBER/A/B, each at most 65535",
             },
         )
     }
@@ -36,7 +44,7 @@ pub fn decimal(digits: &str) -> Option<usize> {
     digits.parse::<usize>().ok()
 }
 
-fn small_number(digits: &str) -> Result<u16, WordError> {
+pub fn small_number(digits: &str) -> Result<u16, WordError> {
     let Some(number) = decimal(digits) else {
         return Err(WordError::Number);
     };
@@ -138,6 +146,19 @@ pub impl Worded for Entry as EntryWorded {
         let left = small_number(left)?;
         let right = small_number(right)?;
         Ok(Entry { form, left, right })
+    }
+}
+
+// The length of a new table.
+#[derive(Clone, Copy)]
+pub struct Length(pub usize);
+
+pub impl Worded for Length as LengthWorded {
+    fn of_word(word: &str) -> Result<Length, WordError> {
+        match decimal(word) {
+            Some(length) if length <= 1_000_000 => Ok(Length(length)),
+            _ => Err(WordError::Length),
+        }
     }
 }
 

@@ -1,7 +1,6 @@
 // The program: takes its arguments apart, reads and writes files, and prints.
 mod request;
 
-use console::assembly::Text;
 use console::assembly::assemble;
 use console::example::example;
 use console::failure::Failure;
@@ -9,13 +8,17 @@ use console::failure::FailureDisplay;
 use console::failure::FailureFromAlloc;
 use console::failure::FailureFromSystem;
 use console::help::HELP;
+use console::listing_text::listing_table;
+use console::listing_text::versions_of;
 use console::messages::Explanation;
 use console::messages::ExplanationDisplay;
 use console::messages::question_numbered;
 use console::readable::description;
 use console::rule::Rule;
 use console::script::play;
+use console::text::Text;
 use console::words::decimal;
+use console::words::small_number;
 use request::Request;
 use request::request_of;
 use std::alloc::AllocError;
@@ -37,6 +40,7 @@ fn run(rt: &LibcRuntime) -> Result<(), Failure> {
         Request::Example => print!(rt, "{}", example(rt.alloc())?)?,
         Request::Show { rule } => show(rt, rule)?,
         Request::Assemble { text, out } => assemble_file(rt, text, out)?,
+        Request::Listing { listing, today } => show_listing(rt, listing, today)?,
         Request::Script => play(rt, rt.stdin())?,
         Request::Explain { number } => explain(rt, number)?,
         Request::Help => rt.print(HELP)?,
@@ -52,6 +56,36 @@ fn show(rt: &LibcRuntime, name: &str) -> Result<(), Failure> {
     };
     let rule = Rule::of_file(rt.alloc(), name, file.as_slice())?;
     print!(rt, "{}", description(rt.alloc(), &rule)?)?;
+    Ok(())
+}
+
+// The versions of a listing file, with what the host answers of each on a day.
+fn show_listing(rt: &LibcRuntime, name: &str, today: &str) -> Result<(), Failure> {
+    let Ok(day) = small_number(today) else {
+        return Err(
+            message(
+                rt,
+                today,
+                "a day was expected, in decimal digits, at most 65535",
+            )?,
+        );
+    };
+    let text = match fs::read_to_string(rt, name) {
+        Ok(text) => text,
+        Err(e) => return Err(unreadable(rt, name, e)?),
+    };
+    let versions = versions_of(
+        rt.alloc(),
+        Text {
+            name,
+            text: text.as_str(),
+        },
+    )?;
+    print!(
+        rt,
+        "{}",
+        listing_table(rt.alloc(), name, versions.as_slice(), day)?
+    )?;
     Ok(())
 }
 
@@ -93,7 +127,7 @@ fn explain(rt: &LibcRuntime, number: &str) -> Result<(), Failure> {
             message(
                 rt,
                 number,
-                "no question has this number; there are 1 to 10 and 12 to 14",
+                "no question has this number; there are 1 to 10, 12 to 14 and 40 to 44",
             )?,
         );
     };

@@ -10,6 +10,10 @@ pub enum Request<'a> {
         text: &'a str,
         out: &'a str,
     },
+    Listing {
+        listing: &'a str,
+        today: &'a str,
+    },
     Script,
     Explain {
         number: &'a str,
@@ -54,6 +58,10 @@ fn with_two<'a>(command: &'a str, first: &'a str, second: &'a str) -> Request<'a
             text: first,
             out: second,
         },
+        "listing" => Request::Listing {
+            listing: first,
+            today: second,
+        },
         _ => unreadable(command),
     }
 }
@@ -63,10 +71,11 @@ fn unreadable<'a>(command: &'a str) -> Request<'a> {
     let usage = match command {
         "show" => "one argument was expected: midraukle show RULE",
         "assemble" => "two arguments were expected: midraukle assemble TEXT OUT",
+        "listing" => "two arguments were expected: midraukle listing LISTING TODAY",
         "script" => "no argument was expected: midraukle script",
         "explain" => "one argument was expected: midraukle explain NUMBER",
         "help" | "--help" | "-h" => "no argument was expected: midraukle help",
-        _ => "no such command; there are show, assemble, script, explain and help",
+        _ => "no such command; there are show, assemble, listing, script, explain and help",
     };
     Request::Unreadable { command, usage }
 }

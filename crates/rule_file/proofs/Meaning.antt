@@ -17,7 +17,7 @@ use Rattle.std.proofs.shelf.Lists.{take-at, take-take, append-nil, length-take-
 use Rattle.calculus.specs.declared.entry.Entry.{Entry}
 use Rattle.calculus.specs.declared.node.Node.{Node}
 use Rattle.calculus.specs.declared.refusal.Question.{Question}
-use Rattle.calculus.specs.declared.refusal.Question.the-variants.{FileLength, FileHead, FileRecords, TableRoom, TermUnended, SectionMark, NumberRange, TypeNew, TermEnded, Counts, EntryLaid, OneTerm, ByteRoom}
+use Rattle.calculus.specs.declared.refusal.Question.the-variants.{FileLength, FileHead, FileRecords, TableRoom, TermUnended, SectionMark, NumberRange, TypeNew, TermEnded, Counts, EntryLaid, OneTerm, ByteRoom, VersionRoom, LineRoom, ProfileDigit, LineLegal, LineNew}
 use Rattle.calculus.specs.declared.refusal.Refusal.{Refusal}
 use Rattle.calculus.specs.Kinds.{blank}
 use Rattle.calculus.specs.Forms.{empty}
@@ -232,6 +232,11 @@ module _ (es : List Entry) (ns : List Node) (rule : Rule es ns) (types : List En
   writes (NumberRange k) u = u
   writes (TypeNew k) u = u
   writes (TermEnded k) u = u
+  writes VersionRoom u = u
+  writes LineRoom u = u
+  writes (ProfileDigit k) u = u
+  writes (LineLegal k) u = u
+  writes (LineNew k) u = u
 
 written-back : (es : List Entry) (ns : List Node) → Rule es ns → (types : List Entry) (count : ℕ) (bytes bytes′ : List ℕ) (r : Result ℕ Refusal)
     → take count types ≡ es → count ≡ length es → count ≤ length types → length (file-of es ns) ≤ length bytes

@@ -19,7 +19,7 @@ use Rattle.std.specs.declared.result.Result.the-variants.{Ok, Err}
 use Rattle.calculus.specs.declared.entry.Entry.{Entry}
 use Rattle.calculus.specs.declared.node.Node.{Node}
 use Rattle.calculus.specs.declared.refusal.Question.{Question}
-use Rattle.calculus.specs.declared.refusal.Question.the-variants.{FileLength, FileHead, FileRecords, TableRoom, TermUnended, SectionMark, NumberRange, TypeNew, TermEnded, Counts, EntryLaid, OneTerm, ByteRoom}
+use Rattle.calculus.specs.declared.refusal.Question.the-variants.{FileLength, FileHead, FileRecords, TableRoom, TermUnended, SectionMark, NumberRange, TypeNew, TermEnded, Counts, EntryLaid, OneTerm, ByteRoom, VersionRoom, LineRoom, ProfileDigit, LineLegal, LineNew}
 use Rattle.calculus.specs.declared.refusal.Refusal.{Refusal}
 use Rattle.calculus.specs.Kinds.{blank}
 use Rattle.calculus.specs.Forms.{empty}
@@ -74,6 +74,11 @@ Placed file Counts = ⊥
 Placed file (EntryLaid p) = ⊥
 Placed file (OneTerm p) = ⊥
 Placed file ByteRoom = ⊥
+Placed file VersionRoom = ⊥
+Placed file LineRoom = ⊥
+Placed file (ProfileDigit p) = ⊥
+Placed file (LineLegal p) = ⊥
+Placed file (LineNew p) = ⊥
 
 abbrev pub RefusedAt : List ℕ → Result Loaded Refusal → Type 0
 RefusedAt file (Ok loaded) = Unit {0}

@@ -15,7 +15,7 @@ use Rattle.std.specs.declared.result.Result.the-variants.{Ok, Err}
 use Rattle.calculus.specs.declared.entry.Entry.{Entry}
 use Rattle.calculus.specs.declared.node.Node.{Node}
 use Rattle.calculus.specs.declared.refusal.Question.{Question}
-use Rattle.calculus.specs.declared.refusal.Question.the-variants.{FileLength, FileHead, FileRecords, TableRoom, TermUnended, SectionMark, NumberRange, TypeNew, TermEnded, Counts, EntryLaid, OneTerm, ByteRoom}
+use Rattle.calculus.specs.declared.refusal.Question.the-variants.{FileLength, FileHead, FileRecords, TableRoom, TermUnended, SectionMark, NumberRange, TypeNew, TermEnded, Counts, EntryLaid, OneTerm, ByteRoom, VersionRoom, LineRoom, ProfileDigit, LineLegal, LineNew}
 use Rattle.calculus.specs.declared.refusal.Refusal.{Refusal}
 use Rattle.terms.specs.Whole
 use Rattle.calculus.specs.Tables.{LaidDown, TableJudged}
@@ -57,6 +57,11 @@ Unwritable nodes types count room (SectionMark k) = ⊥
 Unwritable nodes types count room (NumberRange k) = ⊥
 Unwritable nodes types count room (TypeNew k) = ⊥
 Unwritable nodes types count room (TermEnded k) = ⊥
+Unwritable nodes types count room VersionRoom = ⊥
+Unwritable nodes types count room LineRoom = ⊥
+Unwritable nodes types count room (ProfileDigit k) = ⊥
+Unwritable nodes types count room (LineLegal k) = ⊥
+Unwritable nodes types count room (LineNew k) = ⊥
 
 abbrev pub WriteCall : List Node → List Entry → ℕ → List ℕ → Result ℕ Refusal → List ℕ → Type 0
 WriteCall nodes types count bytes (Ok n) bytes′ =

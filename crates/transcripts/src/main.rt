@@ -1,5 +1,4 @@
-// Plays each script that is named on the command line; a name that ends in .rule is a text to assemble and show.
-use console::assembly::Text;
+// Plays each script that is named on the command line; a name that ends in .txt is a text to assemble and show.
 use console::assembly::assemble;
 use console::failure::Failure;
 use console::failure::FailureDisplay;
@@ -7,9 +6,12 @@ use console::failure::FailureFromAlloc;
 use console::failure::FailureFromSystem;
 use console::hexadecimal::Hex;
 use console::hexadecimal::HexDisplay;
+use console::listing_text::listing_table;
+use console::listing_text::versions_of;
 use console::readable::description;
 use console::rule::Rule;
 use console::script::play;
+use console::text::Text;
 use std::env;
 use std::fs;
 use std::fs::File;
@@ -25,8 +27,10 @@ fn main(rt: LibcRuntime) -> Result<(), Failure> {
 fn run(rt: &LibcRuntime) -> Result<(), Failure> {
     for name in env::args(rt)?.skip(1) {
         println!(rt, "== {name}")?;
-        if name.as_str().ends_with(".rule") {
+        if name.as_str().ends_with(".txt") {
             show_text(rt, name.as_str())?;
+        } else if name.as_str().ends_with(".listing") {
+            show_listing(rt, name.as_str())?;
         } else {
             play(rt, File::open(rt, name.as_str())?)?;
         }
@@ -49,6 +53,26 @@ fn show_text(rt: &LibcRuntime, name: &str) -> Result<(), Failure> {
             let rule = Rule::of_file(rt.alloc(), name, file.as_slice())?;
             print!(rt, "{}", description(rt.alloc(), &rule)?)?;
         }
+        Err(failure) => println!(rt, "{failure}")?,
+    }
+    Ok(())
+}
+
+// The table of a listing, or why there is none.
+fn show_listing(rt: &LibcRuntime, name: &str) -> Result<(), Failure> {
+    let text = fs::read_to_string(rt, name)?;
+    match versions_of(
+        rt.alloc(),
+        Text {
+            name,
+            text: text.as_str(),
+        },
+    ) {
+        Ok(versions) => print!(
+            rt,
+            "{}",
+            listing_table(rt.alloc(), name, versions.as_slice(), 300)?
+        )?,
         Err(failure) => println!(rt, "{failure}")?,
     }
     Ok(())

@@ -1,0 +1,4 @@
+pub mod EmptyDays
+pub mod FirstLines
+pub mod Replies
+pub mod OneFault
