@@ -1,4 +1,6 @@
 // Measures load and write on files of several sizes; with the argument `once` it makes each call once and checks it.
+#![tactic(auto)]
+
 mod measure;
 mod workload;
 

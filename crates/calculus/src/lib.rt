@@ -1,5 +1,7 @@
 // The words that every other crate speaks: kinds and nodes of terms, forms and entries of types, answers of hosts, causes
 // to stop, refusals; and the laws of the calculus.
+#![tactic(auto)]
+
 pub mod answer;
 pub mod entry;
 pub mod form;

@@ -1,4 +1,6 @@
 // Tests check on rules whose types or refusals were worked out by hand, and prints a line for each case.
+#![tactic(auto)]
+
 mod accepted;
 mod call;
 mod case;

@@ -1,4 +1,6 @@
 // Checking rules: accepted exactly when the typing rules derive a type.
+#![tactic(auto)]
+
 pub mod acceptance;
 pub mod check;
 mod frame;

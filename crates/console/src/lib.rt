@@ -1,4 +1,6 @@
 // The program's words, messages and script interpreter, as a library.
+#![tactic(auto)]
+
 pub mod assembly;
 pub mod command;
 pub mod example;

@@ -1,4 +1,6 @@
 // Tests load and write on both sides of every edge, and prints a line for each case.
+#![tactic(auto)]
+
 mod calls;
 mod cases;
 mod load_edges;

@@ -1,4 +1,6 @@
 // Evaluation of accepted rules: runs in the caller's tables, and the safety of every list of calls on them.
+#![tactic(auto)]
+
 pub mod close;
 mod evaluate;
 pub mod held;

@@ -1,4 +1,5 @@
 // Tests of hosts: the listing and the sheet at their limits, and answers as nodes.
+#![tactic(auto)]
 
 #[cfg(test)]
 mod tests {

@@ -1,4 +1,6 @@
 // Hosts, which answer the questions of rules: what is known of every host, the listing, the sheet, and answers as nodes.
+#![tactic(auto)]
+
 pub mod host;
 pub mod line;
 pub mod listing;

@@ -1,4 +1,6 @@
 // The program: takes its arguments apart, reads and writes files, and prints.
+#![tactic(auto)]
+
 mod request;
 
 use console::assembly::assemble;

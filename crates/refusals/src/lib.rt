@@ -1,4 +1,6 @@
 // Why a call refuses: the question that was answered no, and the layer of the call that put it.
+#![tactic(auto)]
+
 ghost use Rattle.std.specs.Prelude.{◌≡◌};
 ghost use Rattle.refusals.specs.Refusals.{layer_number_lem, question_numbers, report_of};
 

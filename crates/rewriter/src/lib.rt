@@ -1,5 +1,7 @@
 // The inner layer of the evaluator, on terms as flat lists of nodes: whether nodes are one closed term, the redex of a
 // term, substitution, and one step.
+#![tactic(auto)]
+
 pub mod closed;
 mod depths;
 mod focus;

@@ -1,4 +1,6 @@
 // Tests runs on scenarios that were worked out by hand, and prints a line for each.
+#![tactic(auto)]
+
 mod basic;
 mod faults;
 mod hosts_change;

@@ -1,4 +1,6 @@
 // Reading flat terms: one term or the first node at fault, and where a term ends.
+#![tactic(auto)]
+
 ghost use Rattle.std.specs.Prelude.{◌≡◌, ◌≤◌, length};
 ghost use Rattle.terms.specs.Ranges.{in_range};
 ghost use Rattle.terms.specs.Whole.{Judged, EndsAt};

@@ -1,4 +1,6 @@
 // Plays each script that is named on the command line; a name that ends in .txt is a text to assemble and show.
+#![tactic(auto)]
+
 use console::assembly::assemble;
 use console::failure::Failure;
 use console::hexadecimal::Hex;
