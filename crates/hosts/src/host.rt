@@ -38,9 +38,9 @@ pub fn ask_twice<H: Host>(
     number: u16,
 ) -> (Option<Answer>, Option<Answer>)
     ensures same { result.0 ≡ result.1 }
-    ensures value { result.1 ≡ (meaning host.old).answer question number }
+    ensures value { result.1 ≡ (H.meaning host.old).answer question number }
     ensures missing { largest_asked < number → result.1 ≡ None }
-    ensures kept { meaning host.new ≡ meaning host.old }
+    ensures kept { H.meaning host.new ≡ H.meaning host.old }
 {
     let first = host.query(question, number);
     let second = host.query(question, number);

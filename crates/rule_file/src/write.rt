@@ -90,7 +90,7 @@ fn write_fault(nodes: &[Node], types: &[Entry], count: usize, room: usize) -> Op
 // Writes the records to the front of the byte list, one after the other.
 fn put_records<R: Encode>(records: &[R], bytes: &mut [u8])
     requires { 6 * length records.now ≤ length bytes.old }
-    ensures after { bytes.new ≡ flat_map encoded records.now ++ drop (6 * length records.now) bytes.old }
+    ensures after { bytes.new ≡ flat_map R.encoded records.now ++ drop (6 * length records.now) bytes.old }
 {
     for (i, x) in records.iter().enumerate() {
         let record = x.encode();
@@ -103,7 +103,7 @@ fn put_records<R: Encode>(records: &[R], bytes: &mut [u8])
 // Writes the records to the byte list from the byte `at` on.
 fn put_records_at<R: Encode>(records: &[R], bytes: &mut [u8], at: usize)
     requires { at + 6 * length records.now ≤ length bytes.old }
-    ensures after { bytes.new ≡ take at bytes.old ++ (flat_map encoded records.now ++ drop (at + 6 * length records.now) bytes.old) }
+    ensures after { bytes.new ≡ take at bytes.old ++ (flat_map R.encoded records.now ++ drop (at + 6 * length records.now) bytes.old) }
 {
     put_records(records, &mut bytes[at..]);
 }

@@ -13,7 +13,7 @@ pub trait Keyed<K> {
 
 // The index of the first entry with the key.
 pub fn first_with_key<K, T: Keyed<K>>(entries: &[T], key: &K) -> Option<usize>
-    ensures first { First (keyed key.now) entries.now result }
+    ensures first { First (T.keyed key.now) entries.now result }
 {
     for (i, x) in entries.iter().enumerate() {
         if x.has_key(key) {

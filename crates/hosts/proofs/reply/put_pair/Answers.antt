@@ -3,6 +3,6 @@ use Rattle.hosts.proofs.reply.put_pair.Goals as goal
 
 pub returns : goal.returns
 returns c = record {
-  after = pair_put c.args.out.now c.put-numeral.new.out c.put-numeral-2.new.out c.args.m c.args.n c.from.result
-      c.from.ensures c.requires c.put-numeral.ensures.after c.put-numeral-2.ensures.after;
+  after = pair_put c.args.out.now c.put_numeral.new.out c.put_numeral-2.new.out c.args.m c.args.n c.from.result
+      c.from.ensures c.requires c.put_numeral.ensures.after c.put_numeral-2.ensures.after;
 }

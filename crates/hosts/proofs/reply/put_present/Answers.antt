@@ -3,5 +3,5 @@ use Rattle.hosts.proofs.reply.put_present.Goals as goal
 
 pub returns : goal.returns
 returns c = record {
-  after = present_put c.args.out.now c.put-numeral.new.out c.args.number c.requires c.put-numeral.ensures.after;
+  after = present_put c.args.out.now c.put_numeral.new.out c.args.number c.requires c.put_numeral.ensures.after;
 }

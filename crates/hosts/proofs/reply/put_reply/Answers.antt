@@ -2,14 +2,14 @@ use Rattle.std.proofs.Common.{rules}
 use Rattle.hosts.proofs.Replies.{number_size, present_size, pair_size, wrote_reply}
 use Rattle.hosts.proofs.reply.put_reply.Goals as goal
 
-pub put-numeral-requires : goal.put-numeral-requires
-put-numeral-requires c = search (rules, number_size)
+pub put_numeral-requires : goal.put_numeral-requires
+put_numeral-requires c = search (rules, number_size)
 
-pub put-present-requires : goal.put-present-requires
-put-present-requires c = search (rules, present_size)
+pub put_present-requires : goal.put_present-requires
+put_present-requires c = search (rules, present_size)
 
-pub put-pair-requires : goal.put-pair-requires
-put-pair-requires c = search (rules, pair_size)
+pub put_pair-requires : goal.put_pair-requires
+put_pair-requires c = search (rules, pair_size)
 
 pub returns-in-Number : goal.returns-in-Number
 returns-in-Number c = search (rules, wrote_reply, number_size)

@@ -9,8 +9,8 @@ pub loop-i-preserved : goal.loop-i-preserved
 loop-i-preserved c =
     let room : c.loop-i.i < length c.loop-i.nodes = omega arith in (
       length-set _ _ _ ∙ c.loop-i.invariant.0,
-      take_more_set _ _ _ room ∙ ap (λ l. l ++ (c.node-of.result ∷ [])) c.loop-i.invariant.1
-          ∙ map_more node_of _ _ _ _ c.loop-i-test.true c.node-of.ensures.value,
+      take_more_set _ _ _ room ∙ ap (λ l. l ++ (c.node_of.result ∷ [])) c.loop-i.invariant.1
+          ∙ map_more node_of _ _ _ _ c.loop-i-test.true c.node_of.ensures.value,
     )
 
 pub returns : goal.returns

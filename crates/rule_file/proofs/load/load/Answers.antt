@@ -5,12 +5,12 @@ use Rattle.rule_file.proofs.load.load.Goals as goal
 
 pub returns : goal.returns
 returns c =
-    let call = c.load-tables.ensures.call in
-    let bytes : Bytes c.args.file.now = λ i. omega (arith, c.type-inv.file i) in
+    let call = c.load_tables.ensures.call in
+    let bytes : Bytes c.args.file.now = λ i. omega (arith, c.type_inv.file i) in
     let rule = loaded_rule _ _ _ _ _ _ bytes call in
     record {
       call = call;
       rule = rule;
       place = refused_at _ _ _ _ _ _ call;
-      writes_back_lem = writes_back_lem _ _ _ _ _ _ rule;
+      writes_back = writes_back_lem _ _ _ _ _ _ rule;
     }

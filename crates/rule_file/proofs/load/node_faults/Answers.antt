@@ -6,14 +6,14 @@ use Rattle.rule_file.proofs.load.node_faults.Goals as goal
 
 pub returns-in-Some : goal.returns-in-Some
 returns-in-Some c =
-    record { value = node_here _ _ _ _ _ c.loop-i.invariant.1 _ _ c.loop-i-test.true (sym c.node-fault.ensures.value ∙ c.in-Some.is) }
+    record { value = node_here _ _ _ _ _ c.loop-i.invariant.1 _ _ c.loop-i-test.true (sym c.node_fault.ensures.value ∙ c.in-Some.is) }
 
 pub loop-i-preserved : goal.loop-i-preserved
 loop-i-preserved c =
-    let bound : c.children.result ≤ 3 = rw c.children.ensures (arity_le c.node-of.result.kind) in (
+    let bound : c.children.result ≤ 3 = rw c.children.ensures (arity_le c.node_of.result.kind) in (
       omega arith,
       node_more _ _ _ _ _ c.loop-i.invariant.1 _ _ c.loop-i-test.true
-          (sym c.node-fault.ensures.value ∙ c.in-default.is) (c.children.ensures ∙ ap (λ n. arity n.kind) c.node-of.ensures.value),
+          (sym c.node_fault.ensures.value ∙ c.in_default.is) (c.children.ensures ∙ ap (λ n. arity n.kind) c.node_of.ensures.value),
     )
 
 pub returns-then-pending-eq0 : goal.returns-then-pending-eq0

@@ -3,8 +3,8 @@ use Rattle.std.proofs.lemmas.Option.{slice_get_read}
 use Rattle.types.proofs.Firsts.{before_more}
 use Rattle.types.proofs.keyed.first_with_key.Goals as goal
 
-pub returns-then-has-key : goal.returns-then-has-key
-returns-then-has-key g c =
+pub returns-then-has_key : goal.returns-then-has_key
+returns-then-has_key g c =
     let lt : c.loop-i.i < length c.args.entries.now = omega arith in
     let at = slice_get_read c.args.entries.now _ c.loop-i.i _ refl lt c.index-entries-i.is in
     record { first = (lt, (c.index-entries-i.result, at, search rules), c.loop-i.invariant) }

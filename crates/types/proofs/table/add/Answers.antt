@@ -16,7 +16,7 @@ returns-in-Some c =
 
 pub returns : goal.returns
 returns c =
-    let f = rw sub-zero at c.in-default.ensures.first in
+    let f = rw sub-zero at c.in_default.ensures.first in
     let k = set_missing c.args.entry c.args.types.now c.args.count (omega arith) f in
     record {
       number =

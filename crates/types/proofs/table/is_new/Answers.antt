@@ -4,5 +4,5 @@ use Rattle.types.proofs.table.is_new.Goals as goal
 
 pub returns : goal.returns
 returns c =
-    let o = occurs_first c.args.entry.now c.args.earlier.now _ c.first-with-key.ensures.first in
+    let o = occurs_first c.args.entry.now c.args.earlier.now _ c.first_with_key.ensures.first in
     search rules
