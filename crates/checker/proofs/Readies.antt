@@ -16,7 +16,7 @@ use Rattle.checker.specs.Frames.{kept_of, frame_at, stack, context, bind}
 use Rattle.checker.specs.Rules.{arrive, child_of}
 use Rattle.checker.specs.Trees.{Tree, tree, trees_onto}
 use Rattle.checker.specs.Judging.{Outcome}
-use Rattle.checker.specs.Machine.{node_at, Step, go, halt, reach_by, take_by, reaction_of, stepped, result, KeptFits, ReachReady, TakeReady, ReadyBy, Ready}
+use Rattle.checker.specs.Machine.{node_at, Step, go, halt, reach_by, take_by, reaction_of, stepped, step_after, KeptFits, ReachReady, TakeReady, ReadyBy, Ready}
 use Rattle.checker.proofs.Binders.{length_context}
 use Rattle.checker.proofs.Fits.{ReactionFits}
 use Rattle.checker.proofs.Stacks.{stack_step, length_stack}
@@ -114,7 +114,7 @@ module _ (profile : ℕ) (N : List Node) (C : ℕ) (o : Outcome) (ts : List Entr
                 (up_fits profile N C o s.at f K T x d));
           }
 
-  pub ready : Good profile N C o (result (Go s) w B ts) → Ready profile N ts w B s
+  pub ready : Good profile N C o (step_after (Go s) w B ts) → Ready profile N ts w B s
   ready g = record { counts = ct; by = by s.done g }
     where
       by : (d : Option Finished) → Good profile N C o (state d) → ReadyBy profile N ts w B s d

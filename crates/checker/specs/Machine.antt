@@ -5,7 +5,7 @@
 --   reach_by, reached   what reaching a node comes to
 --   take_by, reaction_of, taken   what finishing a node comes to
 --   stepped       one turn
---   result        what a turn of the code came to, by the numbers that hold its frames and binders
+--   step_after        what a turn of the code came to, by the numbers that hold its frames and binders
 --   outcome_of    the outcome that an answer of the code stands for
 --   count_after   the count of entries after a turn
 --   Keeps         a type table with c entries becomes one with d, of which the first c are the same
@@ -76,10 +76,10 @@ stepped profile N (go p F Γ T None) = reached profile N p F Γ T
 stepped profile N (go p F Γ T (Some x)) = taken profile N p F Γ T x
 stepped profile N (halt o) = halt o
 
-abbrev pub result : Turn → List ℕ → List ℕ → List Entry → Step
-result (Go s) w B ts = go s.at (stack w s.depth) (context B s.bound) (take s.count ts) s.done
-result (Accept ty c) w B ts = halt (typed ty (take c ts))
-result (Refuse q) w B ts = halt (refused q)
+abbrev pub step_after : Turn → List ℕ → List ℕ → List Entry → Step
+step_after (Go s) w B ts = go s.at (stack w s.depth) (context B s.bound) (take s.count ts) s.done
+step_after (Accept ty c) w B ts = halt (typed ty (take c ts))
+step_after (Refuse q) w B ts = halt (refused q)
 
 abbrev pub outcome_of : Result (ℕ × ℕ) Question → List Entry → Outcome
 outcome_of (Ok a) ts = typed a.0 (take a.1 ts)

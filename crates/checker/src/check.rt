@@ -89,9 +89,9 @@ pub fn check<'a, H: Host>(
     scratch: &mut [u32],
     host: &mut H,
 ) -> Result<Acceptance<'a>, Refusal>
-    ensures call { MatchResult result (λ a. (a.nodes ≡ nodes.entry) × (a.profile ≡ (meaning host.old).profile) × AcceptCall nodes.now types.old count (length scratch.old) (meaning host.old).profile a.type_number a.count types.new scratch.new) (λ e. RefuseCall nodes.now types.old count scratch.old (meaning host.old).profile e types.new scratch.new) }
-    ensures exactly { MatchResult result (λ a. Exactly nodes.now types.old count (length scratch.old) (meaning host.old).profile true (take a.count types.new)) (λ e. Exactly nodes.now types.old count (length scratch.old) (meaning host.old).profile false (take count types.new)) }
-    ensures kept { meaning host.new ≡ meaning host.old }
+    ensures call { MatchResult result (λ a. (a.nodes ≡ nodes.entry) × (a.profile ≡ (H.meaning host.old).profile) × AcceptCall nodes.now types.old count (length scratch.old) (H.meaning host.old).profile a.type_number a.count types.new scratch.new) (λ e. RefuseCall nodes.now types.old count scratch.old (H.meaning host.old).profile e types.new scratch.new) }
+    ensures exactly { MatchResult result (λ a. Exactly nodes.now types.old count (length scratch.old) (H.meaning host.old).profile true (take a.count types.new)) (λ e. Exactly nodes.now types.old count (length scratch.old) (H.meaning host.old).profile false (take count types.new)) }
+    ensures kept { H.meaning host.new ≡ H.meaning host.old }
 {
     if let Some(question) = check_fault(nodes, types, count, scratch.len()) {
         return Err(refused(question));

@@ -5,7 +5,7 @@ ghost use Rattle.calculus.specs.Syntax.{Term, flat};
 ghost use Rattle.checker.specs.declared.machine.Turn.TheVariants.{Go};
 ghost use Rattle.checker.specs.Frames.{Small, frame_at, stack, context, unbind};
 ghost use Rattle.checker.specs.Judging.{judge_term};
-ghost use Rattle.checker.specs.Machine.{Input, Keeps, count_after, reached, take_by, reaction_of, result, outcome_of, ReachReady, TakeReady, Ready, stepped};
+ghost use Rattle.checker.specs.Machine.{Input, Keeps, count_after, reached, take_by, reaction_of, step_after, outcome_of, ReachReady, TakeReady, Ready, stepped};
 
 use crate::frame::{Awaits, Frame, frame_at, pop_binder, push_binder, put_frame};
 use crate::rules::{Arrival, Reaction, reach, take_child};
@@ -44,9 +44,9 @@ pub enum Turn {
 fn descend(nodes: &[Node], profile: u32, frames: &mut [u32], binders: &mut [u32], st: State) -> Turn
     requires ready { ReachReady nodes.now frames.old binders.old st }
     requires small { Small frames.old × Small binders.old }
-    ensures* step { λ r. ⌜ ((ts : List Row) → result r frames.new binders.new ts ≡ reached profile nodes.now st.at (stack frames.old st.depth) (context binders.old st.bound) (take st.count ts)) ⌝ }
-    ensures* small { λ _. ⌜ Small frames.new × Small binders.new ⌝ }
-    ensures* count { λ r. ⌜ count_after st r ≡ st.count ⌝ }
+    ensures step { (ts : List Row) → step_after result frames.new binders.new ts ≡ reached profile nodes.now st.at (stack frames.old st.depth) (context binders.old st.bound) (take st.count ts) }
+    ensures small { Small frames.new × Small binders.new }
+    ensures count { count_after st result ≡ st.count }
 {
     let node = nodes[st.at as usize];
     match reach(profile, node, st.at, binders, st.bound) {
@@ -89,9 +89,9 @@ fn ascend(
 ) -> Turn
     requires ready { TakeReady profile nodes.now types.old frames.old binders.old st x }
     requires small { Small frames.old × Small binders.old }
-    ensures* step { λ r. ⌜ result r frames.new binders.new types.new ≡ take_by st.at (frame_at frames.old (st.depth - 1)) (stack frames.old (st.depth - 1)) (unbind (frame_at frames.old (st.depth - 1)).bound (context binders.old st.bound)) (take st.count types.old) (reaction_of profile nodes.now (frame_at frames.old (st.depth - 1)) (take st.count types.old) x) ⌝ }
-    ensures* small { λ _. ⌜ Small frames.new × Small binders.new ⌝ }
-    ensures* keeps { λ r. ⌜ Keeps st.count (count_after st r) types.old types.new ⌝ }
+    ensures step { step_after result frames.new binders.new types.new ≡ take_by st.at (frame_at frames.old (st.depth - 1)) (stack frames.old (st.depth - 1)) (unbind (frame_at frames.old (st.depth - 1)).bound (context binders.old st.bound)) (take st.count types.old) (reaction_of profile nodes.now (frame_at frames.old (st.depth - 1)) (take st.count types.old) x) }
+    ensures small { Small frames.new × Small binders.new }
+    ensures keeps { Keeps st.count (count_after st result) types.old types.new }
 {
     let top = st.depth - 1;
     let frame = frame_at(frames, top);
@@ -155,9 +155,9 @@ fn turn_once(
 ) -> Turn
     requires ready { Ready profile nodes.now types.old frames.old binders.old st }
     requires small { Small frames.old × Small binders.old }
-    ensures* step { λ r. ⌜ result r frames.new binders.new types.new ≡ stepped profile nodes.now (result (Go st) frames.old binders.old types.old) ⌝ }
-    ensures* small { λ _. ⌜ Small frames.new × Small binders.new ⌝ }
-    ensures* keeps { λ r. ⌜ Keeps st.count (count_after st r) types.old types.new ⌝ }
+    ensures step { step_after result frames.new binders.new types.new ≡ stepped profile nodes.now (step_after (Go st) frames.old binders.old types.old) }
+    ensures small { Small frames.new × Small binders.new }
+    ensures keeps { Keeps st.count (count_after st result) types.old types.new }
 {
     match st.done {
         None => descend(nodes, profile, frames, binders, st),
@@ -182,9 +182,9 @@ pub fn judge_nodes(
 ) -> Result<(u16, usize), Question>
     requires ready { Input nodes.now types.old count frames.old binders.old }
     requires small { Small frames.old × Small binders.old }
-    ensures* judged { λ r. ⌜ ((t : Term) → flat t ≡ nodes.now → outcome_of r types.new ≡ judge_term profile t (take count types.old)) ⌝ }
-    ensures* front { λ _. ⌜ take count types.new ≡ take count types.old ⌝ }
-    ensures* within { λ r. ⌜ IfOk r (λ a. (count ≤ a.1) × (a.1 ≤ length types.new)) ⌝ }
+    ensures judged { (t : Term) → flat t ≡ nodes.now → outcome_of result types.new ≡ judge_term profile t (take count types.old) }
+    ensures front { take count types.new ≡ take count types.old }
+    ensures within { IfOk result (λ a. (count ≤ a.1) × (a.1 ≤ length types.new)) }
 {
     let mut st = State {
         at: 0,

@@ -51,9 +51,9 @@ fn run_accepted<H: Host>(
     fuel: u32,
     slice: u32,
 ) -> Decision
-    requires { acceptance.now.profile ≡ (meaning host.old).profile }
-    ensures ends { (rule : Term) → flat rule ≡ acceptance.now.nodes.now → Ends (meaning host.old) fuel rule acceptance.now.type_number front.old back.old result front.new }
-    ensures kept { meaning host.new ≡ meaning host.old }
+    requires { acceptance.now.profile ≡ (H.meaning host.old).profile }
+    ensures ends { (rule : Term) → flat rule ≡ acceptance.now.nodes.now → Ends (H.meaning host.old) fuel rule acceptance.now.type_number front.old back.old result front.new }
+    ensures kept { H.meaning host.new ≡ H.meaning host.old }
 {
     let (mut held, token) = start(acceptance, front, back);
     let Some(_) = held.records() else {
@@ -77,8 +77,8 @@ fn decide_loaded<H: Host>(
     fuel: u32,
     slice: u32,
 ) -> Decision
-    ensures judged { Judged nodes.now types.old count scratch.old front.old back.old (meaning host.old) fuel result front.new }
-    ensures kept { meaning host.new ≡ meaning host.old }
+    ensures judged { Judged nodes.now types.old count scratch.old front.old back.old (H.meaning host.old) fuel result front.new }
+    ensures kept { H.meaning host.new ≡ H.meaning host.old }
 {
     match check(nodes, types, count, scratch, host) {
         Err(refusal) => Decision::Unaccepted(refusal),
@@ -90,8 +90,8 @@ fn decide_loaded<H: Host>(
 // that is 0) with so much fuel in all, close. Decided says that the step rules take the file's rule to the value that front then
 // holds, in that many steps under this host; anything else says which call refused, or for which cause the run was left.
 pub fn decide<H: Host>(file: &[u8], memory: Memory, host: &mut H, fuel: u32, slice: u32) -> Decision
-    ensures call { DecideCall file.now memory.entry.nodes.now memory.entry.types.now memory.entry.scratch.now memory.entry.front.now memory.entry.back.now (meaning host.old) fuel result memory.exit.1.1.1.0.now }
-    ensures kept { meaning host.new ≡ meaning host.old }
+    ensures call { DecideCall file.now memory.entry.nodes.now memory.entry.types.now memory.entry.scratch.now memory.entry.front.now memory.entry.back.now (H.meaning host.old) fuel result memory.exit.1.1.1.0.now }
+    ensures kept { H.meaning host.new ≡ H.meaning host.old }
 {
     let Memory {
         nodes,

@@ -21,8 +21,8 @@ pub fn run_slices<H: Host>(
     back: &mut [Node],
     host: &mut H,
 ) -> Result<Ran, Refusal>
-    ensures sliced { Sliced (meaning host.old) fuel (record { run = held.old; front = front.old; back = back.old }) result (record { run = held.new; front = front.new; back = back.new }) }
-    ensures kept { meaning host.new ≡ meaning host.old }
+    ensures sliced { Sliced (H.meaning host.old) fuel (record { run = held.old; front = front.old; back = back.old }) result (record { run = held.new; front = front.new; back = back.new }) }
+    ensures kept { H.meaning host.new ≡ H.meaning host.old }
 {
     let most = if slice == 0 { fuel } else { slice };
     let mut left = fuel;

@@ -25,11 +25,11 @@ fn step_on<H: Host>(
     depths: &mut [u16],
     host: &mut H,
 ) -> Halt
-    requires profile { profile ≡ (meaning host.old).profile }
+    requires profile { profile ≡ (H.meaning host.old).profile }
     requires term { OneClosed (take count front.old) }
     requires tables { (count ≤ length front.old) × ((length front.old ≤ 4096) × ((length back.old ≡ length front.old) × (2 * length front.old + 4 ≤ length depths.old))) }
-    ensures halted { Halted (meaning host.old) fuel count front.old front.new result }
-    ensures kept { meaning host.new ≡ meaning host.old }
+    ensures halted { Halted (H.meaning host.old) fuel count front.old front.new result }
+    ensures kept { H.meaning host.new ≡ H.meaning host.old }
 {
     let mut used = count;
     let mut made = 0;
@@ -61,12 +61,12 @@ pub(crate) fn evaluate<H: Host>(
     depths: &mut [u16],
     host: &mut H,
 ) -> Ran
-    requires profile { (meaning host.old).profile ≡ held.profile }
+    requires profile { (H.meaning host.old).profile ≡ held.profile }
     requires term { OneClosed (take held.count front.old) }
     requires fuel { FuelLeft fuel held }
     requires tables { (length front.old ≡ held.length) × ((length back.old ≡ held.length) × (2 * length front.old + 4 ≤ length depths.old)) }
-    ensures evaluated { Evaluated (meaning host.old) fuel held front.old result front.new back.new }
-    ensures kept { meaning host.new ≡ meaning host.old }
+    ensures evaluated { Evaluated (H.meaning host.old) fuel held front.old result front.new back.new }
+    ensures kept { H.meaning host.new ≡ H.meaning host.old }
 {
     let Halt { cause, made, used } = step_on(
         fuel,

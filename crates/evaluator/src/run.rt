@@ -22,8 +22,8 @@ fn run_question<H: Host>(
     host: &mut H,
 ) -> Result<Held, Question>
     requires { 8196 ≤ length depths.old }
-    ensures value { MatchResult result (λ h. Runnable (meaning host.old) fuel (record { run = run.entry.now; front = front.now; back = back.now }) h) (λ q. RunRefused (meaning host.old) fuel (record { run = run.entry.now; front = front.now; back = back.now }) q) }
-    ensures kept { meaning host.new ≡ meaning host.old }
+    ensures value { MatchResult result (λ h. Runnable (H.meaning host.old) fuel (record { run = run.entry.now; front = front.now; back = back.now }) h) (λ q. RunRefused (H.meaning host.old) fuel (record { run = run.entry.now; front = front.now; back = back.now }) q) }
+    ensures kept { H.meaning host.new ≡ H.meaning host.old }
 {
     let Some(held) = run.held else {
         return Err(Question::TermHeld);
@@ -56,8 +56,8 @@ pub fn run<H: Host>(
     back: &mut [Node],
     host: &mut H,
 ) -> Result<Ran, Refusal>
-    ensures call { RunCall (meaning host.old) fuel (record { run = run.entry.now; front = front.old; back = back.old }) result (record { run = run.exit.now; front = front.new; back = back.new }) }
-    ensures kept { meaning host.new ≡ meaning host.old }
+    ensures call { RunCall (H.meaning host.old) fuel (record { run = run.entry.now; front = front.old; back = back.old }) result (record { run = run.exit.now; front = front.new; back = back.new }) }
+    ensures kept { H.meaning host.new ≡ H.meaning host.old }
 {
     let mut depths = [0; DEPTHS];
     let held = match run_question(run, fuel, front, back, &mut depths, host) {

@@ -24,8 +24,8 @@ pub fn run_twice<H: Host>(
     back: &mut [Node],
     host: &mut H,
 ) -> (Result<Ran, Refusal>, Closing)
-    ensures quiet { (rule : Term) → flat rule ≡ acceptance.now.nodes.now → Fits rule front.old back.old → Quiet (run_call (meaning host.old) fuel result.0) }
-    ensures closed { (rule : Term) → flat rule ≡ acceptance.now.nodes.now → Fits rule front.old back.old → ClosedRun rule acceptance.now.type_number (meaning host.old) result.1 }
+    ensures quiet { (rule : Term) → flat rule ≡ acceptance.now.nodes.now → Fits rule front.old back.old → Quiet (run_call (H.meaning host.old) fuel result.0) }
+    ensures closed { (rule : Term) → flat rule ≡ acceptance.now.nodes.now → Fits rule front.old back.old → ClosedRun rule acceptance.now.type_number (H.meaning host.old) result.1 }
 {
     let (mut held, token) = start(acceptance, front, back);
     let _ = run(&mut held, fuel, front, back, host);

@@ -53,8 +53,8 @@ fn unroll(
 
 // Writes the host's answer to a question at a number. A query without an answer is no redex, so there is one.
 fn put_reply<H: Host>(question: u16, number: u16, out: &mut [Node], host: &mut H) -> Option<usize>
-    ensures wrote { (a : AnswerOf) → (meaning host.old).answer question number ≡ some a → Wrote out.old 0 (flat (reply a)) out.new result }
-    ensures kept { meaning host.new ≡ meaning host.old }
+    ensures wrote { (a : AnswerOf) → (H.meaning host.old).answer question number ≡ some a → Wrote out.old 0 (flat (reply a)) out.new result }
+    ensures kept { H.meaning host.new ≡ H.meaning host.old }
 {
     let Some(answer) = host.query(question, number) else {
         return None;
@@ -70,11 +70,11 @@ fn replace<H: Host>(
     out: &mut [Node],
     host: &mut H,
 ) -> Option<usize>
-    requires redex { StandsAt (meaning host.old) front.now site }
+    requires redex { StandsAt (H.meaning host.old) front.now site }
     requires places { (site.at + 2 ≤ site.upto) × ((site.upto ≤ site.end) × (site.end ≤ length front.now)) }
     requires room { (length front.now ≤ 65535) × (2 * length front.now + 4 ≤ length depths.old) }
-    ensures wrote { Replaces (meaning host.old) front.now site out.old out.new result }
-    ensures kept { meaning host.new ≡ meaning host.old }
+    ensures wrote { Replaces (H.meaning host.old) front.now site out.old out.new result }
+    ensures kept { H.meaning host.new ≡ H.meaning host.old }
 {
     let Site { at, upto, .. } = site;
     let end = site.end;
@@ -124,10 +124,10 @@ pub fn rewrite<H: Host>(
     back: &mut [Node],
     host: &mut H,
 ) -> Option<usize>
-    requires redex { RedexAt (meaning host.old).profile front.now site }
+    requires redex { RedexAt (H.meaning host.old).profile front.now site }
     requires room { (length front.now ≤ 65535) × ((2 * length front.now + 4 ≤ length depths.old) × (length front.now ≤ length back.old)) }
-    ensures step { (t : Term) → flat t ≡ front.now → Rewritten (meaning host.old) t back.old back.new result }
-    ensures kept { meaning host.new ≡ meaning host.old }
+    ensures step { (t : Term) → flat t ≡ front.now → Rewritten (H.meaning host.old) t back.old back.new result }
+    ensures kept { H.meaning host.new ≡ H.meaning host.old }
 {
     let Site { at, end, .. } = site;
     write_front(back, &front[0..at]);

@@ -19,21 +19,21 @@ returns-in-Some g c =
 
 pub new-requires : goal.new-requires
 new-requires g c =
-    accepted_rule c.args.nodes.now c.args.types.now c.args.count (length c.args.scratch.now) c.profile-profile.result c.in-Ok.type-number
-    c.in-Ok.grown c.judge-rule.new.types c.judge-rule.new.scratch c.in-Ok.ensures.judged
+    accepted_rule c.args.nodes.now c.args.types.now c.args.count (length c.args.scratch.now) c.profile-profile.result c.in-Ok.type_number
+    c.in-Ok.grown c.judge_rule.new.types c.judge_rule.new.scratch c.in-Ok.ensures.judged
 
 pub returns-in-Ok : goal.returns-in-Ok
 returns-in-Ok g c =
     let profile = (g.H.Host.meaning c.args.host.now).profile in
     let n = c.new.ensures.numbers in
     let call =
-    same_accept c.args.nodes.now c.args.types.now c.args.count (length c.args.scratch.now) c.judge-rule.new.types c.judge-rule.new.scratch
+    same_accept c.args.nodes.now c.args.types.now c.args.count (length c.args.scratch.now) c.judge_rule.new.types c.judge_rule.new.scratch
     n.0 n.1 c.profile-profile.ensures.value c.in-Ok.ensures.judged in
     record {
       call = (c.new.ensures.nodes, n.2 ∙ c.profile-profile.ensures.value, call);
       exactly =
-          exactly_accepted c.args.nodes.now c.args.types.now c.args.count (length c.args.scratch.now) profile _ _ c.judge-rule.new.types
-          c.judge-rule.new.scratch call;
+          exactly_accepted c.args.nodes.now c.args.types.now c.args.count (length c.args.scratch.now) profile _ _ c.judge_rule.new.types
+          c.judge_rule.new.scratch call;
       kept = c.profile-profile.ensures.kept;
     }
 
@@ -42,13 +42,13 @@ returns-in-Err g c =
     let profile = (g.H.Host.meaning c.args.host.now).profile in
     let call =
     subst (λ (p : ℕ). RejectCall c.args.nodes.now c.args.types.now c.args.count (length c.args.scratch.now) p c.in-Err.question
-    c.judge-rule.new.types c.judge-rule.new.scratch) c.profile-profile.ensures.value c.in-Err.ensures.judged in
+    c.judge_rule.new.types c.judge_rule.new.scratch) c.profile-profile.ensures.value c.in-Err.ensures.judged in
     record {
       call =
-          subst (λ (e : Refusal). RefuseCall c.args.nodes.now c.args.types.now c.args.count c.args.scratch.now profile e c.judge-rule.new.types c.judge-rule.new.scratch)
+          subst (λ (e : Refusal). RefuseCall c.args.nodes.now c.args.types.now c.args.count c.args.scratch.now profile e c.judge_rule.new.types c.judge_rule.new.scratch)
           (sym c.refused-in-Err.ensures.value) (during call);
       exactly =
           exactly_rejected c.args.nodes.now c.args.types.now c.args.count (length c.args.scratch.now) profile c.in-Err.question
-          c.judge-rule.new.types c.judge-rule.new.scratch call;
+          c.judge_rule.new.types c.judge_rule.new.scratch call;
       kept = c.profile-profile.ensures.kept;
     }

@@ -3,8 +3,8 @@ use Rattle.checker.specs.Checking.{zeros}
 use Rattle.checker.proofs.Checks.{accept_call, reject_call, small_zeros}
 use Rattle.checker.proofs.check.judge_rule.Goals as goal
 
-pub judge-nodes-requires : goal.judge-nodes-requires
-judge-nodes-requires c =
+pub judge_nodes-requires : goal.judge_nodes-requires
+judge_nodes-requires c =
     let filled : c.fill.new.self ≡ zeros (length c.args.scratch.now) = search rules in
     record {
       ready = record {
@@ -14,18 +14,18 @@ judge-nodes-requires c =
         few_nodes = c.requires.counts.few_nodes;
         few_types = c.requires.counts.few_types;
         types = c.requires.room.0;
-        words = omega (arith, c.split-at-mut-frames.ensures.front-len);
-        slots = omega (arith, c.split-at-mut-frames.ensures.back_len, c.requires.room.1, c.fill.ensures.len);
+        words = omega (arith, c.split_at_mut-frames.ensures.front_len);
+        slots = omega (arith, c.split_at_mut-frames.ensures.back_len, c.requires.room.1, c.fill.ensures.len);
       };
-      small = small_zeros (length c.args.scratch.now) _ _ (sym filled ∙ c.split-at-mut-frames.ensures.value);
+      small = small_zeros (length c.args.scratch.now) _ _ (sym filled ∙ c.split_at_mut-frames.ensures.value);
     }
 
 pub returns-in-Ok : goal.returns-in-Ok
 returns-in-Ok c =
     record {
       judged = accept_call c.args.nodes.now c.args.types.now c.args.count (length c.args.scratch.now) c.args.profile c.requires
-          c.in-Ok.type-number c.in-Ok.grown c.judge-nodes.new.types c.clear.new.types c.clear.new.numbers
-          c.judge-nodes.auto.types c.in-Ok.ensures.within.1 c.in-Ok.ensures.judged c.clear.ensures.types
+          c.in-Ok.type_number c.in-Ok.grown c.judge_nodes.new.types c.clear.new.types c.clear.new.numbers
+          c.judge_nodes.auto.types c.in-Ok.ensures.within.1 c.in-Ok.ensures.judged c.clear.ensures.types
           (c.clear.ensures.numbers ∙ ap zeros (search rules));
     }
 
@@ -33,7 +33,7 @@ pub returns-in-Err : goal.returns-in-Err
 returns-in-Err c =
     record {
       judged = reject_call c.args.nodes.now c.args.types.now c.args.count (length c.args.scratch.now) c.args.profile c.requires
-          c.in-Err.question c.judge-nodes.new.types c.clear-in-Err.new.types c.clear-in-Err.new.numbers
-          c.judge-nodes.auto.types c.in-Err.ensures.judged c.in-Err.ensures.front c.clear-in-Err.ensures.types
+          c.in-Err.question c.judge_nodes.new.types c.clear-in-Err.new.types c.clear-in-Err.new.numbers
+          c.judge_nodes.auto.types c.in-Err.ensures.judged c.in-Err.ensures.front c.clear-in-Err.ensures.types
           (c.clear-in-Err.ensures.numbers ∙ ap zeros (search rules));
     }

@@ -4,7 +4,7 @@ use Rattle.calculus.specs.Syntax.{Term, flat}
 use Rattle.checker.specs.declared.machine.Turn.TheVariants.{Go}
 use Rattle.checker.specs.Trees.{view}
 use Rattle.checker.specs.Judging.{Outcome, judge_term}
-use Rattle.checker.specs.Machine.{Step, result}
+use Rattle.checker.specs.Machine.{Step, step_after}
 use Rattle.checker.proofs.Tracks.{Good, good_start}
 use Rattle.checker.proofs.Readies.{Room, ready, good_step, falls, left}
 use Rattle.checker.proofs.Turns.{same_keeps, keeps_on}
@@ -24,8 +24,8 @@ turns-init c =
       same_keeps C ts (omega (arith, input.types)),
     )
 
-pub turn-once-requires : goal.turn-once-requires
-turn-once-requires c =
+pub turn_once-requires : goal.turn_once-requires
+turn_once-requires c =
     let input = c.requires.ready in
     let room : Room c.args.nodes.now c.args.count c.turns.types c.turns.frames c.turns.binders = record {
       few_nodes = input.few_nodes;
@@ -44,7 +44,7 @@ pub turns-smaller : goal.turns-smaller
 turns-smaller c =
     let N = c.args.nodes.now in
     let t = c.requires.ready.term in
-    subst (λ (x : Step). left N x < left N (result (Go c.turns.st) c.turns.frames c.turns.binders c.turns.types)) (sym c.in-Go.ensures.step)
+    subst (λ (x : Step). left N x < left N (step_after (Go c.turns.st) c.turns.frames c.turns.binders c.turns.types)) (sym c.in-Go.ensures.step)
     (falls c.args.profile N c.args.count _ _ _ _ _ c.turns.st.done (c.turns.invariant.0 t.0 t.1))
 
 pub turns-preserved : goal.turns-preserved
@@ -54,13 +54,13 @@ turns-preserved c =
           subst (Good c.args.profile N c.args.count o) (sym c.in-Go.ensures.step)
           (good_step c.args.profile N c.args.count o _ _ _ _ c.turns.st.done (c.turns.invariant.0 t e)),
       c.in-Go.ensures.small,
-      keeps_on c.args.count c.turns.st.count _ c.args.types.now c.turns.types c.turn-once.new.types c.turns.invariant.2 c.in-Go.ensures.keeps,
+      keeps_on c.args.count c.turns.st.count _ c.args.types.now c.turns.types c.turn_once.new.types c.turns.invariant.2 c.in-Go.ensures.keeps,
     )
 
 pub returns-in-Accept : goal.returns-in-Accept
 returns-in-Accept c =
     let N = c.args.nodes.now in
-    let k = keeps_on c.args.count c.turns.st.count _ c.args.types.now c.turns.types c.turn-once.new.types c.turns.invariant.2 c.in-Accept.ensures.keeps in
+    let k = keeps_on c.args.count c.turns.st.count _ c.args.types.now c.turns.types c.turn_once.new.types c.turns.invariant.2 c.in-Accept.ensures.keeps in
     record {
       judged = λ t e. let o = judge_term c.args.profile t (take c.args.count c.args.types.now) in
           subst (Good c.args.profile N c.args.count o) (sym c.in-Accept.ensures.step)
@@ -72,7 +72,7 @@ returns-in-Accept c =
 pub returns-in-Refuse : goal.returns-in-Refuse
 returns-in-Refuse c =
     let N = c.args.nodes.now in
-    let k = keeps_on c.args.count c.turns.st.count _ c.args.types.now c.turns.types c.turn-once.new.types c.turns.invariant.2 c.in-Refuse.ensures.keeps in
+    let k = keeps_on c.args.count c.turns.st.count _ c.args.types.now c.turns.types c.turn_once.new.types c.turns.invariant.2 c.in-Refuse.ensures.keeps in
     record {
       judged = λ t e. let o = judge_term c.args.profile t (take c.args.count c.args.types.now) in
           subst (Good c.args.profile N c.args.count o) (sym c.in-Refuse.ensures.step)

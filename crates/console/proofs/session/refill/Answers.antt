@@ -4,5 +4,5 @@ use Rattle.console.proofs.session.refill.Goals as goal
 
 pub returns : goal.returns
 returns g c =
-    c.in-ok-resize.ensures.items
+    c.in_ok-resize.ensures.items
     ∙ refilled _ c.args.length _ c.args.filler c.clear.ensures.items c.clear.ensures.len

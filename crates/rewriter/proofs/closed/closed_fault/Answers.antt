@@ -22,13 +22,13 @@ returns-then-top-depths c = record {
   judged = judged_closed _ _ (fault_late _ c.loop-i.depths _ c.loop-i.top _ c.loop-i.invariant.4 (omega arith) c.loop-i-test.true);
 }
 
-pub returns-then-not-fits-under : goal.returns-then-not-fits-under
-returns-then-not-fits-under c = record {
-  judged = judged_closed _ _ (fault_unfit _ c.loop-i.depths _ c.loop-i.top _ c.loop-i.invariant.4 c.index-nodes-i.result (omega arith) c.loop-i-test.true c.index-nodes-i.is c.if-not-fits-under.ensures.value);
+pub returns-then-not-fits_under : goal.returns-then-not-fits_under
+returns-then-not-fits_under c = record {
+  judged = judged_closed _ _ (fault_unfit _ c.loop-i.depths _ c.loop-i.top _ c.loop-i.invariant.4 c.index-nodes-i.result (omega arith) c.loop-i-test.true c.index-nodes-i.is c.if-not-fits_under.ensures.value);
 }
 
-pub push-depths-top-requires : goal.push-depths-top-requires
-push-depths-top-requires c =
+pub push_depths-top-requires : goal.push_depths-top-requires
+push_depths-top-requires c =
     let w = within_top c.loop-i.i c.loop-i.depths c.loop-i.top (omega arith) c.loop-i.invariant.2 in
     (omega (arith, simp length-set at c.loop-i.auto.depths), (omega arith, omega arith))
 
@@ -37,12 +37,12 @@ loop-i-preserved c =
     let n = c.index-nodes-i.result in
     let l : c.loop-i.top < length c.loop-i.depths = omega arith in
     let w = within_top c.loop-i.i c.loop-i.depths c.loop-i.top l c.loop-i.invariant.2 in
-    let s = c.push-depths-top.ensures.stack in (
+    let s = c.push_depths-top.ensures.stack in (
       omega arith,
       omega arith,
       subst (Within (c.loop-i.i + 1)) (sym s) (within_more n.kind _ c.loop-i.i _ w.0 w.1),
       omega arith,
-      fault_more _ c.loop-i.depths _ c.loop-i.top _ c.loop-i.invariant.4 n _ l c.loop-i-test.true c.index-nodes-i.is c.if-not-fits-under.ensures.value s,
+      fault_more _ c.loop-i.depths _ c.loop-i.top _ c.loop-i.invariant.4 n _ l c.loop-i-test.true c.index-nodes-i.is c.if-not-fits_under.ensures.value s,
     )
 
 pub returns-then-top-depths-2 : goal.returns-then-top-depths-2

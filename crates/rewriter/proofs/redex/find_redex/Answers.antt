@@ -2,16 +2,16 @@ use Rattle.std.proofs.Common.{arith}
 use Rattle.rewriter.proofs.Finding.{found_value, found_variable, bounds, stuck, ready, redex_at}
 use Rattle.rewriter.proofs.redex.find_redex.Goals as goal
 
-pub rule-at-requires : goal.rule-at-requires
-rule-at-requires c = (bounds _ _ _ c.in-Eliminator.ensures.value c.requires.0.0 c.requires.0.1).0
+pub rule_at-requires : goal.rule_at-requires
+rule_at-requires c = (bounds _ _ _ c.in-Eliminator.ensures.value c.requires.0.0 c.requires.0.1).0
 
-pub returns-in-default : goal.returns-in-default
-returns-in-default c = record {
-  found = λ t is. stuck _ _ _ c.in-Eliminator.ensures.value t is _ c.in-default.ensures.value;
+pub returns-in_default : goal.returns-in_default
+returns-in_default c = record {
+  found = λ t is. stuck _ _ _ c.in-Eliminator.ensures.value t is _ c.in_default.ensures.value;
 }
 
-pub past-eliminator-end-requires : goal.past-eliminator-end-requires
-past-eliminator-end-requires c =
+pub past_eliminator-end-requires : goal.past_eliminator-end-requires
+past_eliminator-end-requires c =
     let b = bounds _ _ _ c.in-Eliminator.ensures.value c.requires.0.0 c.requires.0.1 in
     (b.1, (b.2, omega arith))
 
@@ -26,7 +26,7 @@ returns-in-Variable c = record {
 pub returns-in-Some : goal.returns-in-Some
 returns-in-Some c = record {
   found = (
-    redex_at _ _ _ c.in-Eliminator.ensures.value c.requires.0.0 c.requires.0.1 _ _ _ c.in-Some.ensures.value c.past-eliminator-end.ensures.end,
+    redex_at _ _ _ c.in-Eliminator.ensures.value c.requires.0.0 c.requires.0.1 _ _ _ c.in-Some.ensures.value c.past_eliminator-end.ensures.end,
     λ t is. ready _ _ _ c.in-Eliminator.ensures.value t is _ _ c.in-Some.ensures.value,
   );
 }

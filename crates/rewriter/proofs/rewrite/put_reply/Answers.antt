@@ -27,6 +27,6 @@ pub returns : goal.returns
 returns g c = record {
   wrote = λ a e.
       let s = same_answer _ _ a c.in-Some.ensures.value e in
-      rw (← s) (wrote_answer _ _ _ _ c.put-answer.auto.out c.put-answer.ensures.call);
+      rw (← s) (wrote_answer _ _ _ _ c.put_answer.auto.out c.put_answer.ensures.call);
   kept = search rules;
 }

@@ -7,8 +7,8 @@ use Rattle.rewriter.proofs.rules.numeral_of.Goals as goal
 pub returns-in-Zero : goal.returns-in-Zero
 returns-in-Zero c = record { value = numeral_here _ _ _ c.loop-i-test.true c.index-nodes-i.is _ c.loop-i.invariant c.in-Zero.is }
 
-pub returns-in-default : goal.returns-in-default
-returns-in-default c =
+pub returns-in_default : goal.returns-in_default
+returns-in_default c =
     let j : same c.index-nodes-i.result.kind Successor ≡ false = search rules in
     let k : same c.index-nodes-i.result.kind Zero ≡ false = search rules in
     record { value = numeral_other _ _ _ c.loop-i-test.true c.index-nodes-i.is _ c.loop-i.invariant j k }

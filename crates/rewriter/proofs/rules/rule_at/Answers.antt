@@ -21,8 +21,8 @@ returns-in-Query c = record {
   value = at_query _ c.args.front.now c.args.at _ _ (omega arith) c.index-front-at.is c.in-Query.is c.answer_rule.ensures.value;
 }
 
-pub returns-in-default : goal.returns-in-default
-returns-in-default c =
+pub returns-in_default : goal.returns-in_default
+returns-in_default c =
     let k : same c.index-front-at.result.kind Query ≡ false = search rules in
     record {
       value = at_other _ c.args.front.now c.args.at _ _ (omega arith) c.index-front-at.is k _ (omega arith) c.index-front-at-2.is c.rule_for.ensures.value;

@@ -17,20 +17,20 @@ loop-i-init c =
       refl,
     )
 
-pub returns-in-default : goal.returns-in-default
-returns-in-default c =
+pub returns-in_default : goal.returns-in_default
+returns-in_default c =
     let turn = turn_hit c.args.value.now c.loop-i.depths c.loop-i.top c.args.body.now c.loop-i.i _
-    c.if-top-depths.true c.loop-i-test.true c.index-body-i.is _ _ c.if-is-index.ensures.value c.loop-i.invariant.4 in
+    c.if-top-depths.true c.loop-i-test.true c.index-body-i.is _ _ c.if-is_index.ensures.value c.loop-i.invariant.4 in
     record {
-      wrote = omega (arith, wrote_short c.loop-i.out c.args.value.now _ _ c.loop-i.used c.loop-i.invariant.3 c.in-default.ensures.wrote turn);
+      wrote = omega (arith, wrote_short c.loop-i.out c.args.value.now _ _ c.loop-i.used c.loop-i.invariant.3 c.in_default.ensures.wrote turn);
     }
 
-pub loop-i-preserved-then-is-index : goal.loop-i-preserved-then-is-index
-loop-i-preserved-then-is-index c =
+pub loop-i-preserved-then-is_index : goal.loop-i-preserved-then-is_index
+loop-i-preserved-then-is_index c =
     let w = within_top c.loop-i.i c.loop-i.depths c.loop-i.top c.if-top-depths.true c.loop-i.invariant.2 in
     let o = c.in-Some.ensures.wrote in
     let turn = turn_hit c.args.value.now c.loop-i.depths c.loop-i.top c.args.body.now c.loop-i.i _
-    c.if-top-depths.true c.loop-i-test.true c.index-body-i.is _ _ c.if-is-index.ensures.value c.loop-i.invariant.4 in (
+    c.if-top-depths.true c.loop-i-test.true c.index-body-i.is _ _ c.if-is_index.ensures.value c.loop-i.invariant.4 in (
       omega arith,
       omega arith,
       w.1,
@@ -39,16 +39,16 @@ loop-i-preserved-then-is-index c =
       wrote_kept c.args.out.now c.loop-i.out c.write.new.out c.args.value.now c.loop-i.used c.in-Some.end o c.loop-i.invariant.5,
     )
 
-pub returns-in-default-write-one : goal.returns-in-default-write-one
-returns-in-default-write-one c =
+pub returns-in_default-write_one : goal.returns-in_default-write_one
+returns-in_default-write_one c =
     let turn = turn_miss c.args.value.now c.loop-i.depths c.loop-i.top c.args.body.now c.loop-i.i _
-    c.if-top-depths.true c.loop-i-test.true c.index-body-i.is _ _ c.if-is-index.ensures.value c.loop-i.invariant.4 in
+    c.if-top-depths.true c.loop-i-test.true c.index-body-i.is _ _ c.if-is_index.ensures.value c.loop-i.invariant.4 in
     record {
-      wrote = omega (arith, wrote_short c.loop-i.out (c.index-body-i.result ∷ []) _ _ c.loop-i.used c.loop-i.invariant.3 c.in-default-write-one.ensures.wrote turn);
+      wrote = omega (arith, wrote_short c.loop-i.out (c.index-body-i.result ∷ []) _ _ c.loop-i.used c.loop-i.invariant.3 c.in_default-write_one.ensures.wrote turn);
     }
 
-pub push-depths-top-requires : goal.push-depths-top-requires
-push-depths-top-requires c =
+pub push_depths-top-requires : goal.push_depths-top-requires
+push_depths-top-requires c =
     let w = within_top c.loop-i.i c.loop-i.depths c.loop-i.top c.if-top-depths.true c.loop-i.invariant.2 in
     (omega (arith, simp length-set at c.loop-i.auto.depths), (omega arith, omega arith))
 
@@ -56,17 +56,17 @@ pub loop-i-preserved : goal.loop-i-preserved
 loop-i-preserved c =
     let w = within_top c.loop-i.i c.loop-i.depths c.loop-i.top c.if-top-depths.true c.loop-i.invariant.2 in
     let n = c.index-body-i.result in
-    let o = c.in-Some-write-one.ensures.wrote in
-    let s = c.push-depths-top.ensures.stack in
+    let o = c.in-Some-write_one.ensures.wrote in
+    let s = c.push_depths-top.ensures.stack in
     let turn = turn_miss c.args.value.now c.loop-i.depths c.loop-i.top c.args.body.now c.loop-i.i n
-    c.if-top-depths.true c.loop-i-test.true c.index-body-i.is _ _ c.if-is-index.ensures.value c.loop-i.invariant.4 in (
+    c.if-top-depths.true c.loop-i-test.true c.index-body-i.is _ _ c.if-is_index.ensures.value c.loop-i.invariant.4 in (
       omega arith,
       omega arith,
       subst (Within (c.loop-i.i + 1)) (sym s) (within_more n.kind _ c.loop-i.i _ w.0 w.1),
       omega arith,
-      ap (λ z. take c.in-Some-write-one.end c.write-one.new.out ++ substituted c.args.value.now z (drop (c.loop-i.i + 1) c.args.body.now)) s
-          ∙ wrote_on c.loop-i.out c.write-one.new.out (n ∷ []) _ _ c.loop-i.used c.in-Some-write-one.end o turn,
-      wrote_kept c.args.out.now c.loop-i.out c.write-one.new.out (n ∷ []) c.loop-i.used c.in-Some-write-one.end o c.loop-i.invariant.5,
+      ap (λ z. take c.in-Some-write_one.end c.write_one.new.out ++ substituted c.args.value.now z (drop (c.loop-i.i + 1) c.args.body.now)) s
+          ∙ wrote_on c.loop-i.out c.write_one.new.out (n ∷ []) _ _ c.loop-i.used c.in-Some-write_one.end o turn,
+      wrote_kept c.args.out.now c.loop-i.out c.write_one.new.out (n ∷ []) c.loop-i.used c.in-Some-write_one.end o c.loop-i.invariant.5,
     )
 
 pub returns-else-top-depths : goal.returns-else-top-depths
