@@ -16,14 +16,17 @@ use console::text::Text;
 use console::words::{decimal, small_number};
 use request::{Request, request_of};
 use std::alloc::AllocError;
+use std::process::ExitCode;
 use std::{env, fs, io};
 
-fn main(rt: HostRuntime) -> Result<(), Failure> {
-    let outcome = run(&rt);
-    if let Err(failure) = &outcome {
-        let _ = eprintln!(rt; "midraukle: {failure}");
+fn main(rt: HostRuntime) -> ExitCode {
+    match run(&rt) {
+        Ok(()) => ExitCode::SUCCESS,
+        Err(failure) => {
+            let _ = eprintln!(rt; "midraukle: {failure}");
+            ExitCode::FAILURE
+        }
     }
-    outcome
 }
 
 fn run(rt: &HostRuntime) -> Result<(), Failure> {

@@ -10,14 +10,17 @@ use console::rule::Rule;
 use console::script::play;
 use console::text::Text;
 use std::fs::File;
+use std::process::ExitCode;
 use std::{env, fs};
 
-fn main(rt: HostRuntime) -> Result<(), Failure> {
-    let outcome = run(&rt);
-    if let Err(failure) = &outcome {
-        let _ = eprintln!(rt; "transcripts: {failure}");
+fn main(rt: HostRuntime) -> ExitCode {
+    match run(&rt) {
+        Ok(()) => ExitCode::SUCCESS,
+        Err(failure) => {
+            let _ = eprintln!(rt; "transcripts: {failure}");
+            ExitCode::FAILURE
+        }
     }
-    outcome
 }
 
 fn run(rt: &HostRuntime) -> Result<(), Failure> {
