@@ -7,8 +7,8 @@ use Rattle.evaluator.specs.OneCall.{nothing_held, not_closed, not_value}
 use Rattle.evaluator.proofs.Halts.{part}
 use Rattle.evaluator.proofs.close.close_question.Goals as goal
 
-pub returns-in-default : goal.returns-in-default
-returns-in-default c = record { value = nothing_held (λ h f. c.in-default.not-Some h f.0) }
+pub returns-in_default : goal.returns-in_default
+returns-in_default c = record { value = nothing_held (λ h f. c.in_default.not-Some h f.0) }
 
 pub returns-then-front-held : goal.returns-then-front-held
 returns-then-front-held c = record {
@@ -17,18 +17,18 @@ returns-then-front-held c = record {
       omega (arith, ap (λ (x : Held). x.length) same, f.1, c.if-front-held.true));
 }
 
-pub returns-in-Some-closed-fault : goal.returns-in-Some-closed-fault
-returns-in-Some-closed-fault c = record {
+pub returns-in-Some-closed_fault : goal.returns-in-Some-closed_fault
+returns-in-Some-closed_fault c = record {
   value = not_closed (c.in-Some.is, c.if-front-held.false)
-      (subst (λ (l : List Node). FirstClosedFault l c.in-Some-closed-fault.k) (part c.args.front.now c.in-Some.held.count)
-      c.in-Some-closed-fault.ensures.judged);
+      (subst (λ (l : List Node). FirstClosedFault l c.in-Some-closed_fault.k) (part c.args.front.now c.in-Some.held.count)
+      c.in-Some-closed_fault.ensures.judged);
 }
 
 pub returns-in-Value : goal.returns-in-Value
 returns-in-Value c =
     let front = c.args.front.now in
     let count = c.in-Some.held.count in
-    let o = c.in-default-closed-fault.ensures.judged in
+    let o = c.in_default-closed_fault.ensures.judged in
     record {
       value = record {
         table = (c.in-Some.is, c.if-front-held.false);
@@ -40,7 +40,7 @@ returns-in-Value c =
 
 pub returns-in-Stuck : goal.returns-in-Stuck
 returns-in-Stuck c =
-    let o = c.in-default-closed-fault.ensures.judged in
+    let o = c.in_default-closed_fault.ensures.judged in
     record {
       value = not_value (c.in-Some.is, c.if-front-held.false) (o.1 ∙ part c.args.front.now c.in-Some.held.count, o.2)
           (c.in-Stuck.ensures.found o.0 o.1).0;
@@ -48,7 +48,7 @@ returns-in-Stuck c =
 
 pub returns-in-Ready : goal.returns-in-Ready
 returns-in-Ready c =
-    let o = c.in-default-closed-fault.ensures.judged in
+    let o = c.in_default-closed_fault.ensures.judged in
     record {
       value = not_value (c.in-Some.is, c.if-front-held.false) (o.1 ∙ part c.args.front.now c.in-Some.held.count, o.2)
           (c.in-Ready.ensures.found.1 o.0 o.1).0;

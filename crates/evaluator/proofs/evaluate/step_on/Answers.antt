@@ -26,18 +26,18 @@ returns-then-made-fuel g c = record {
   kept = c.loop-site.invariant.2;
 }
 
-pub returns-in-default : goal.returns-in-default
-returns-in-default g c = record {
+pub returns-in_default : goal.returns-in_default
+returns-in_default g c = record {
   halted = halted_full c.loop-site.invariant.3 (g.H.Host.meaning c.loop-site.host) c.loop-site.invariant.2 c.loop-site.back c.rewrite.new.back
-      c.loop-site.invariant.1 c.if-made-fuel.false c.in-default.ensures.step;
-  kept = c.in-default.ensures.kept ∙ c.loop-site.invariant.2;
+      c.loop-site.invariant.1 c.if-made-fuel.false c.in_default.ensures.step;
+  kept = c.in_default.ensures.kept ∙ c.loop-site.invariant.2;
 }
 
 pub loop-site-preserved : goal.loop-site-preserved
 loop-site-preserved g c = (
-  c.copy-first.auto.to ∙ c.loop-site.invariant.0,
+  c.copy_first.auto.to ∙ c.loop-site.invariant.0,
   c.rewrite.auto.back ∙ c.loop-site.invariant.1,
   c.in-Some.ensures.kept ∙ c.loop-site.invariant.2,
   going_on c.loop-site.invariant.3 (g.H.Host.meaning c.loop-site.host) c.loop-site.invariant.2 c.in-Some.next c.loop-site.back
-      c.rewrite.new.back _ _ c.loop-site.invariant.1 c.if-made-fuel.false c.copy-first.ensures.after c.in-Some.ensures.step,
+      c.rewrite.new.back _ _ c.loop-site.invariant.1 c.if-made-fuel.false c.copy_first.ensures.after c.in-Some.ensures.step,
 )

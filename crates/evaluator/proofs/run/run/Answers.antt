@@ -4,7 +4,7 @@ use Rattle.evaluator.proofs.run.run.Goals as goal
 
 pub returns : goal.returns
 returns g c = record {
-  call = run_made (g.H.Host.meaning c.args.host.now) (g.H.Host.meaning c.run-question.new.host) c.args.fuel
+  call = run_made (g.H.Host.meaning c.args.host.now) (g.H.Host.meaning c.run_question.new.host) c.args.fuel
       (record { run = c.args.run.now; front = c.args.front.now; back = c.args.back.now }) c.in-Ok.held c.evaluate-ran.result
       c.evaluate-ran.new.front c.evaluate-ran.new.back c.in-Ok.ensures.kept c.in-Ok.ensures.value c.evaluate-ran.ensures.evaluated
       _ refl refl refl refl refl;

@@ -7,8 +7,8 @@ use Rattle.evaluator.specs.OneCall.{no_term, no_fuel, no_profile, no_closed}
 use Rattle.evaluator.proofs.Halts.{part}
 use Rattle.evaluator.proofs.run.run_question.Goals as goal
 
-pub returns-in-default : goal.returns-in-default
-returns-in-default g c = record { value = no_term (λ h f. c.in-default.not-Some h f.0.0); kept = refl }
+pub returns-in_default : goal.returns-in_default
+returns-in_default g c = record { value = no_term (λ h f. c.in_default.not-Some h f.0.0); kept = refl }
 
 pub returns-then-front-held : goal.returns-then-front-held
 returns-then-front-held g c = record {
@@ -31,13 +31,13 @@ returns-then-profile-held g c = record {
   kept = c.profile.ensures.kept;
 }
 
-pub returns-in-Some-closed-fault : goal.returns-in-Some-closed-fault
-returns-in-Some-closed-fault g c =
+pub returns-in-Some-closed_fault : goal.returns-in-Some-closed_fault
+returns-in-Some-closed_fault g c =
     let front = c.args.front.now in
     record {
       value = no_closed ((c.in-Some.is, c.if-front-held.false), c.if-back-held.false) c.if-fuel-held.false
           (sym c.profile.ensures.value ∙ c.if-profile-held.false)
-          (subst (λ (l : List Node). FirstClosedFault l c.in-Some-closed-fault.k) (part front c.in-Some.held.count)
-          c.in-Some-closed-fault.ensures.judged);
+          (subst (λ (l : List Node). FirstClosedFault l c.in-Some-closed_fault.k) (part front c.in-Some.held.count)
+          c.in-Some-closed_fault.ensures.judged);
       kept = c.profile.ensures.kept;
     }

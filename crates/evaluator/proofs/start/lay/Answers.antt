@@ -28,8 +28,8 @@ returns c =
     ap (λ n. take n c.loop-i.front) (sym at) ∙ c.loop-i.invariant.1 ∙ all in
     let long = c.loop-i.invariant.0 in
     record {
-      front = subst (λ l. c.blank-rest.new.front ≡ l ++ blanks (length c.args.front.now - length nodes)) front
-          (subst (λ n. c.blank-rest.new.front ≡ take (length nodes) c.loop-i.front ++ blanks (n - length nodes)) long c.blank-rest.ensures.front);
-      back = c.blank-rest.ensures.back;
+      front = subst (λ l. c.blank_rest.new.front ≡ l ++ blanks (length c.args.front.now - length nodes)) front
+          (subst (λ n. c.blank_rest.new.front ≡ take (length nodes) c.loop-i.front ++ blanks (n - length nodes)) long c.blank_rest.ensures.front);
+      back = c.blank_rest.ensures.back;
       narrow = subst (AllByRecursion Narrow) all c.loop-i.invariant.2;
     }

@@ -29,11 +29,11 @@ returns c =
     record {
       leaves = λ t p. leaves t c.nodes-nodes.result.now c.args.front.now c.args.back.now c.lay.new.front c.lay.new.back
           _ a.type_number a.profile (rule t p) c.if-length-back.false c.if-length-nodes.false c.if-length-gt-LONGEST.false
-          c.lay.ensures.front c.lay.ensures.back refl refl refl c.type-number.ensures.value c.profile.ensures.value
+          c.lay.ensures.front c.lay.ensures.back refl refl refl c.type_number.ensures.value c.profile.ensures.value
           c.lay.ensures.narrow;
       safe = λ t p f. promises t c.nodes-nodes.result.now c.args.front.now c.args.back.now c.lay.new.front c.lay.new.back
           _ a.type_number a.profile (rule t p) c.if-length-back.false c.if-length-nodes.false c.if-length-gt-LONGEST.false
-          c.lay.ensures.front c.lay.ensures.back refl refl refl c.type-number.ensures.value c.profile.ensures.value
+          c.lay.ensures.front c.lay.ensures.back refl refl refl c.type_number.ensures.value c.profile.ensures.value
           c.lay.ensures.narrow (its_rule a.nodes.now a.type_number a.profile a.rule t p);
       agree = agree;
       token = refl;
