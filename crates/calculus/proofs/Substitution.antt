@@ -1,7 +1,7 @@
 -- For terms with no other free variable, `put` is the usual substitution. Assumes nothing.
-use Rattle.std.proofs.Common.{◌≡◌, ℕ, zero, suc, ◌-◌, ◌<◌, ◌≤◌, Bool, true, false, cond, eqb, ltb, ◌⊎◌, Some, None, Option, unwrap_or, sym, refl, ap, ◌∙◌, inl, inr, arith}
+use Rattle.std.proofs.Common.{◌≡◌, ℕ, zero, suc, ◌-◌, ◌<◌, cond, ltb, Some, None, Option, unwrap_or, sym, refl, ap, ◌∙◌, inl, inr, arith}
 use Rattle.std.proofs.lemmas.Bool.{cases_eq, eq-eqb, ne_eqb, lt-ltb}
-use Rattle.calculus.specs.Syntax.{Term, VA, ZE, SU, RE, LA, AP, TR, PA, FS, SN, AB, IL, IR, CA, QU, put, up, one, Scoped, scoped_var, scoped_z, scoped_s, scoped_rec, scoped_abs, scoped_fapp, scoped_null, scoped_pair, scoped_fst, scoped_snd, scoped_abort, scoped_inl, scoped_inr, scoped_case, scoped_query}
+use Rattle.calculus.specs.Syntax.{Term, VA, SU, RE, LA, AP, PA, FS, SN, AB, IL, IR, CA, QU, put, up, one, Scoped, scoped_var, scoped_z, scoped_s, scoped_rec, scoped_abs, scoped_fapp, scoped_null, scoped_pair, scoped_fst, scoped_snd, scoped_abort, scoped_inl, scoped_inr, scoped_case, scoped_query}
 use Rattle.calculus.specs.Substitution.{usual, SubstitutionUsual}
 
 -- v for the variable d

@@ -6,7 +6,7 @@
 --   joins            whether a form joins two types
 --   entry, empty     entries of a type table
 -- Assumes nothing.
-use Rattle.std.specs.Prelude.{◌≡◌, ℕ, Bool, true, false, cond, ◌&&◌, List, [], ◌∷◌, ◌≢◌}
+use Rattle.std.specs.Prelude.{◌≡◌, ℕ, Bool, true, false, cond, List, [], ◌∷◌, ◌≢◌}
 use Rattle.calculus.specs.declared.form.Form.{Form}
 use Rattle.calculus.specs.declared.form.Form.TheVariants as form
 use Rattle.calculus.specs.declared.entry.Entry.{Entry}

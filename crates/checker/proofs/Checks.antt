@@ -1,19 +1,19 @@
 -- What the outcome of the machine says of the rule, and exactly when a rule is accepted. Assumes nothing.
-use Rattle.std.proofs.Common.{◌≡◌, ℕ, zero, suc, ◌+◌, ◌-◌, ◌*◌, ◌^◌, ◌<◌, ◌≤◌, true, false, List, [], ◌∷◌, ◌++◌, length, get_or, take, drop, replicate, sym, refl, ap, ◌∙◌, subst, arith, ltb-true}
+use Rattle.std.proofs.Common.{◌≡◌, ℕ, zero, suc, ◌-◌, ◌≤◌, true, false, List, [], ◌∷◌, ◌++◌, length, get_or, take, drop, replicate, sym, refl, ap, ◌∙◌, subst, arith, ltb-true}
 use Rattle.std.proofs.lemmas.List.{length-take-le, take_at, take-append-drop}
 use Rattle.refusals.specs.declared.Question.{Question}
 use Rattle.calculus.specs.declared.entry.Entry.{Entry}
 use Rattle.calculus.specs.declared.node.Node.{Node}
 use Rattle.calculus.specs.Forms.{empty}
-use Rattle.calculus.specs.Syntax.{Ty, Term, VA, ZE, SU, RE, LA, AP, TR, PA, FS, SN, AB, IL, IR, CA, QU, onto, flat}
+use Rattle.calculus.specs.Syntax.{Term, VA, ZE, SU, RE, LA, AP, TR, PA, FS, SN, AB, IL, IR, CA, QU, onto, flat}
 use Rattle.calculus.specs.Tables.{LaidDown, reading}
 use Rattle.calculus.specs.Typing.{Typed, TypesBelow}
-use Rattle.calculus.specs.Accepted.{AcceptedBy, Accepted}
+use Rattle.calculus.specs.Accepted.{Accepted}
 use Rattle.calculus.proofs.Reading.{read_once}
 use Rattle.terms.specs.Ranges.{AllInRange}
 use Rattle.checker.specs.Frames.{Small}
-use Rattle.checker.specs.Judging.{Outcome, typed, refused, judge_term}
-use Rattle.checker.specs.Meaning.{Accepts, Refuses, Means}
+use Rattle.checker.specs.Judging.{typed, refused, judge_term}
+use Rattle.checker.specs.Meaning.{Means}
 use Rattle.types.proofs.Laid.{laid_front}
 use Rattle.checker.specs.Checking.{Checkable, Uncheckable, counts_unfit, no_room, entry_at_fault, node_at_fault, zeros, AcceptCall, RejectCall, Exactly}
 use Rattle.checker.proofs.OutcomeMeans.{judge_means}

@@ -1,5 +1,5 @@
 -- What keeps the whole's outcome also lets the machine go on, and brings it nearer to its end. Assumes nothing.
-use Rattle.std.proofs.Common.{◌≡◌, ℕ, zero, suc, ◌+◌, ◌-◌, ◌*◌, ◌^◌, ◌<◌, ◌≤◌, true, false, List, [], ◌∷◌, length, take, is_some, Some, None, Option, sym, refl, ap, ◌∙◌, subst, arith}
+use Rattle.std.proofs.Common.{◌≡◌, ℕ, suc, ◌+◌, ◌-◌, ◌*◌, ◌^◌, ◌<◌, ◌≤◌, true, List, [], ◌∷◌, length, take, is_some, Some, None, Option, sym, refl, ap, subst, arith}
 use Rattle.std.proofs.lemmas.List.{length-take-le}
 use Rattle.calculus.specs.declared.entry.Entry.{Entry}
 use Rattle.calculus.specs.declared.node.Node.{Node}
@@ -20,7 +20,7 @@ use Rattle.checker.specs.Machine.{node_at, Step, go, halt, reach_by, take_by, re
 use Rattle.checker.proofs.Binders.{length_context}
 use Rattle.checker.proofs.Fits.{ReactionFits}
 use Rattle.checker.proofs.Stacks.{stack_step, length_stack}
-use Rattle.checker.proofs.Tracks.{Pending, plain, plains, binders, after, Base, Down, Up, Good, headed, up_fits, good_reached, good_taken}
+use Rattle.checker.proofs.Tracks.{Pending, plain, plains, binders, after, Down, Up, Good, headed, up_fits, good_reached, good_taken}
 
 kept_fits : (v : Reaction) (ar k C : ℕ) → C < 2 ^ 16 → ReactionFits v ar k C → KeptFits v
 kept_fits (Done ty) ar k C h f = tt

@@ -1,5 +1,5 @@
 -- The machine keeps what `judge` says of the whole tree. Assumes nothing.
-use Rattle.std.proofs.Common.{◌≡◌, ℕ, zero, suc, ◌+◌, ◌<◌, ◌≤◌, true, List, [], ◌∷◌, ◌++◌, length, get_or, drop, is_some, Some, None, Option, sym, refl, ap, ◌∙◌, subst, arith}
+use Rattle.std.proofs.Common.{◌≡◌, ℕ, suc, ◌+◌, ◌<◌, ◌≤◌, List, [], ◌∷◌, length, get_or, drop, is_some, Some, None, Option, sym, refl, ap, ◌∙◌, subst, arith}
 use Rattle.std.proofs.lemmas.List.{get_or-drop, drop-drop, length-drop}
 use Rattle.refusals.specs.declared.Question.{Question}
 use Rattle.calculus.specs.declared.entry.Entry.{Entry}
@@ -16,11 +16,11 @@ use Rattle.checker.specs.declared.rules.Arrival.{Arrival}
 use Rattle.checker.specs.declared.rules.Arrival.TheVariants.{Known, Waits, Barred}
 use Rattle.checker.specs.declared.rules.Reaction.{Reaction}
 use Rattle.checker.specs.declared.rules.Reaction.TheVariants.{Done, Build, Next, Reject}
-use Rattle.checker.specs.Frames.{kept_of, frame, bind, unbind}
+use Rattle.checker.specs.Frames.{kept_of, frame, bind}
 use Rattle.checker.specs.Rules.{arrive, child_of, react}
 use Rattle.checker.specs.Trees.{Tree, tree, Trees, none, more, tree_onto, trees_onto, tree_size, trees_size, many, Whole, Wholes, root}
 use Rattle.checker.specs.Judging.{Outcome, typed, refused, on_outcome, on_arrival, on_reaction, settle, judge, children}
-use Rattle.checker.specs.Machine.{node_at, Step, go, halt, finished, reach_by, reached, take_by, reaction_of, taken}
+use Rattle.checker.specs.Machine.{node_at, Step, go, halt, reach_by, reached, take_by, reaction_of, taken}
 use Rattle.checker.proofs.Binders.{unbound}
 use Rattle.checker.proofs.Fits.{BinderIn, AllIn, ArrivalFits, ReactionFits, NumberIn, number_up, binder_up, PartsIn, react_fits, arrive_fits, parts_with}
 

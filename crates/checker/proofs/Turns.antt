@@ -1,6 +1,6 @@
 -- What one turn of the code comes to, as a turn of the machine on lists. Assumes nothing.
-use Rattle.std.proofs.Common.{◌≡◌, ℕ, suc, ◌+◌, ◌-◌, ◌*◌, ◌^◌, ◌<◌, ◌≤◌, Bool, true, false, cond, List, [], ◌∷◌, ◌++◌, length, get_or, take, drop, is_some, Some, None, Option, sym, refl, ap, ◌∙◌, subst, arith}
-use Rattle.std.proofs.lemmas.List.{get_or_default, take-append-le, take_all, length-take-le, length-append, take-take}
+use Rattle.std.proofs.Common.{◌≡◌, ℕ, ◌+◌, ◌-◌, ◌*◌, ◌<◌, ◌≤◌, Bool, true, false, cond, List, [], ◌∷◌, ◌++◌, length, get_or, take, drop, is_some, None, Option, sym, refl, ap, ◌∙◌, arith}
+use Rattle.std.proofs.lemmas.List.{get_or_default, take-append-le, take_all, length-take-le, take-take}
 use Rattle.refusals.specs.declared.Question.{Question}
 use Rattle.calculus.specs.declared.entry.Entry.{Entry}
 use Rattle.calculus.specs.declared.node.Node.{Node}
@@ -13,13 +13,13 @@ use Rattle.checker.specs.declared.frame.Awaits.TheVariants.{First}
 use Rattle.checker.specs.declared.frame.Frame.{Frame}
 use Rattle.checker.specs.declared.machine.Finished.{Finished}
 use Rattle.checker.specs.declared.rules.Arrival.{Arrival}
-use Rattle.checker.specs.declared.rules.Arrival.TheVariants.{Known, Waits, Barred}
+use Rattle.checker.specs.declared.rules.Arrival.TheVariants.{Waits}
 use Rattle.checker.specs.declared.rules.Reaction.{Reaction}
 use Rattle.checker.specs.declared.rules.Reaction.TheVariants.{Done, Build, Next, Reject}
-use Rattle.checker.specs.Frames.{frame, frame_at, stack, put_frame_lem, context, bind, unbind}
+use Rattle.checker.specs.Frames.{frame, stack, put_frame_lem, context, bind}
 use Rattle.checker.specs.Rules.{arrive, react}
 use Rattle.checker.specs.Judging.{refused}
-use Rattle.checker.specs.Machine.{node_at, Step, go, halt, finished, reach_by, take_by, reaction_of, Keeps}
+use Rattle.checker.specs.Machine.{node_at, go, halt, finished, reach_by, take_by, reaction_of, Keeps}
 use Rattle.checker.proofs.Stacks.{stack_put}
 
 -- an element that was read

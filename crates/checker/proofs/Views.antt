@@ -1,5 +1,5 @@
 -- A term as a tree: its nodes, its size, and that it is whole. And nodes in range name types of the table. Assumes nothing.
-use Rattle.std.proofs.Common.{◌≡◌, ℕ, zero, suc, ◌+◌, ◌<◌, ◌≤◌, true, List, [], ◌∷◌, length, get_or, refl, ap, ◌∙◌, ⊎_elim, arith}
+use Rattle.std.proofs.Common.{◌≡◌, ℕ, zero, suc, ◌<◌, ◌≤◌, List, [], ◌∷◌, length, get_or, refl, ⊎_elim, arith}
 use Rattle.std.proofs.lemmas.List.{get_or_past}
 use Rattle.std.proofs.lemmas.Bool.{cases_lt}
 use Rattle.calculus.specs.declared.entry.Entry.{Entry}
@@ -10,7 +10,6 @@ use Rattle.calculus.specs.Tables.{LaidDown}
 use Rattle.calculus.proofs.Readings.{Placed, placed_nat, placed_unit, placed_void, placed_joined, placed}
 use Rattle.terms.specs.Ranges.{AllInRange}
 use Rattle.checker.specs.Trees.{tree_onto, Whole, view}
-use Rattle.checker.specs.Machine.{node_at}
 use Rattle.checker.proofs.Fits.{number_in, PartsIn}
 use Rattle.checker.proofs.Tracks.{NumbersIn}
 

@@ -11,7 +11,7 @@
 --   bind        a context, with one more binder if there is one
 --   unbind      a context without its innermost binder, if that is to go
 -- Assumes nothing.
-use Rattle.std.specs.Prelude.{◌≡◌, ℕ, zero, suc, ◌+◌, ◌*◌, ◌^◌, ◌<◌, Bool, true, false, cond, ◌||◌, List, [], ◌∷◌, Some, None, Option, ◌==◌, nat_lt, slice_index, slice_set}
+use Rattle.std.specs.Prelude.{ℕ, zero, suc, ◌+◌, ◌*◌, ◌^◌, ◌<◌, Bool, true, false, cond, ◌||◌, List, [], ◌∷◌, Some, None, Option, ◌==◌, nat_lt, slice_index, slice_set}
 use Rattle.checker.specs.declared.frame.Awaits.{Awaits}
 use Rattle.checker.specs.declared.frame.Awaits.TheVariants.{First, Second, Third}
 use Rattle.checker.specs.declared.frame.Frame.{Frame}

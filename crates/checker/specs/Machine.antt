@@ -13,7 +13,7 @@
 --   ReachReady, TakeReady, Ready   what a turn needs
 --   Input         what the machine is given: a rule, a table with its count, and numbers for frames and binders
 -- Assumes nothing.
-use Rattle.std.specs.Prelude.{◌≡◌, ℕ, suc, ◌+◌, ◌-◌, ◌*◌, ◌^◌, ◌<◌, ◌≤◌, true, List, [], ◌∷◌, length, take, is_some, Some, None, Ok, Err, Option, Result, slice_index_or}
+use Rattle.std.specs.Prelude.{◌≡◌, ℕ, ◌+◌, ◌-◌, ◌*◌, ◌^◌, ◌<◌, ◌≤◌, true, List, [], ◌∷◌, length, take, is_some, Some, None, Ok, Err, Option, Result, slice_index_or}
 use Rattle.refusals.specs.declared.Question.{Question}
 use Rattle.calculus.specs.declared.entry.Entry.{Entry}
 use Rattle.calculus.specs.declared.node.Node.{Node}
@@ -21,7 +21,6 @@ use Rattle.calculus.specs.Kinds.{blank}
 use Rattle.calculus.specs.Tables.{LaidDown}
 use Rattle.terms.specs.Whole.{OneTerm}
 use Rattle.types.specs.Adding.{index_of, with_entry}
-use Rattle.checker.specs.declared.frame.Awaits.{Awaits}
 use Rattle.checker.specs.declared.frame.Awaits.TheVariants.{First}
 use Rattle.checker.specs.declared.frame.Frame.{Frame}
 use Rattle.checker.specs.declared.machine.Finished.{Finished}

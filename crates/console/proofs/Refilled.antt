@@ -1,7 +1,7 @@
 -- A list that was emptied and made longer again.
 --   refilled   it has the new element in every place
 -- Assumes nothing.
-use Rattle.std.proofs.Common.{◌≡◌, ℕ, ◌-◌, List, [], ◌++◌, take, replicate, ap, ◌∙◌}
+use Rattle.std.proofs.Common.{◌≡◌, ℕ, ◌-◌, List, [], ◌++◌, take, replicate}
 use native.Mathlib.Nat.{sub-zero}
 use lib.Seq.{take-nil}
 

@@ -10,7 +10,7 @@ use Rattle.calculus.specs.declared.entry.Entry.{Entry}
 use Rattle.calculus.specs.declared.node.Node.{Node}
 use Rattle.calculus.specs.declared.stop.StopCause.{StopCause}
 use Rattle.calculus.specs.declared.stop.StopCause.TheVariants as cause
-use Rattle.calculus.specs.Syntax.{Ty, Term, Value, onto, size}
+use Rattle.calculus.specs.Syntax.{Ty, Term, Value, size}
 use Rattle.calculus.specs.Tables.{LaidDown, reading}
 use Rattle.calculus.specs.Meanings.{Meaning, Lawful}
 use Rattle.calculus.specs.Typing.{Typed}
@@ -21,7 +21,7 @@ use Rattle.evaluator.specs.declared.held.Held.{Held}
 use Rattle.evaluator.specs.declared.outcome.Closing.{Closing}
 use Rattle.evaluator.specs.declared.outcome.Closing.TheVariants as closing
 use Rattle.evaluator.specs.declared.outcome.Ran.{Ran}
-use Rattle.evaluator.specs.OneCall.{most_steps, in_run, State, blanks, Fits, StartCall, RunRefused, no_term, no_fuel, no_profile, no_closed, RunMade, RunCall, CloseCall}
+use Rattle.evaluator.specs.OneCall.{most_steps, in_run, State, blanks, Fits, StartCall, RunRefused, no_term, no_fuel, no_profile, no_closed, CloseCall}
 use Rattle.evaluator.specs.Lists.{Call, run_call, hosts}
 use Rattle.evaluator.specs.Safety.{Other, Quiet, Safe, SafeFrom}
 use Rattle.evaluator.proofs.Slices.{calls_more}

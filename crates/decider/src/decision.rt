@@ -1,4 +1,5 @@
 // What became of a rule file.
+use calculus::refusal::Refusal as FileRefusal;
 use calculus::stop::StopCause;
 use refusals::Refusal;
 
@@ -22,5 +23,5 @@ pub enum Decision {
     // check refused the rule
     Unaccepted(Refusal),
     // load refused the file
-    Unloaded(Refusal),
+    Unloaded(FileRefusal),
 }

@@ -1,5 +1,5 @@
 -- Records and what they say: each is read back from its bytes, and its bytes from what it says. Assumes nothing.
-use Rattle.std.proofs.Common.{◌≡◌, ℕ, zero, suc, ◌+◌, ◌-◌, ◌*◌, ◌/◌, ◌%◌, ◌<◌, ◌≤◌, Bool, true, false, cond, ◌&&◌, eqb, ltb, List, [], ◌∷◌, ◌++◌, length, get_or, sym, refl, ap, ◌∙◌, arith}
+use Rattle.std.proofs.Common.{◌≡◌, ℕ, ◌+◌, ◌*◌, ◌/◌, ◌%◌, ◌<◌, ◌≤◌, Bool, true, false, cond, List, [], ◌∷◌, ◌++◌, length, get_or, sym, refl, ap, ◌∙◌, arith}
 use Rattle.std.proofs.lemmas.Bool.{true≢false, ltb-true, eqb-true}
 use Rattle.std.proofs.lemmas.Bool.Decides.{nat_tests}
 use Rattle.calculus.specs.declared.entry.Entry.{Entry}
@@ -10,7 +10,7 @@ use Rattle.calculus.specs.declared.kind.Kind.TheVariants.{Blank, Variable, Zero,
 use Rattle.calculus.specs.declared.node.Node.{Node}
 use Rattle.calculus.specs.Kinds.{is_mark, kind_mark, kind_of_mark, node}
 use Rattle.calculus.specs.Forms.{joins, form_mark, form_of_mark, entry}
-use Rattle.terms.specs.Ranges.{in_range, number_in_range}
+use Rattle.terms.specs.Ranges.{number_in_range}
 use Rattle.rule_file.specs.Files.{low_high, head_bytes, entry_bytes, node_bytes, Bytes}
 use Rattle.rule_file.specs.Records.{Sort, head, type, node_record, unreadable, present, sort_of_mark, sort_by_mark, is_head, is_type, is_node, first_number_lem, second_number_lem, form_in, kind_in, entry_of, node_of}
 

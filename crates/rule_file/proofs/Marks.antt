@@ -1,5 +1,5 @@
 -- The two letters of a mark. Assumes nothing.
-use Rattle.std.proofs.Common.{◌≡◌, ℕ, List, ◌∷◌, ◌++◌, length, get_or, sym, refl, ap, ◌∙◌}
+use Rattle.std.proofs.Common.{◌≡◌, ℕ, List, ◌∷◌, ◌++◌, length, get_or, sym, refl, ap}
 use Rattle.calculus.specs.declared.form.Form.{Form}
 use Rattle.calculus.specs.declared.form.Form.TheVariants as form
 use Rattle.calculus.specs.declared.kind.Kind.{Kind}

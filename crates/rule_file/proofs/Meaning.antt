@@ -1,5 +1,5 @@
 -- What load and write answer, in terms of rules. Assumes nothing.
-use Rattle.std.proofs.Common.{◌≡◌, ℕ, zero, suc, ◌+◌, ◌-◌, ◌*◌, ◌%◌, ◌<◌, ◌≤◌, Bool, true, false, cond, ◌&&◌, eqb, ltb, leb, ◌⊎◌, List, [], ◌∷◌, ◌++◌, map, length, get_or, take, drop, replicate, Some, None, Ok, Err, Option, Result, sym, refl, ap, ◌∙◌, subst, inl, inr, add-one, arith, length-append, take-append-drop}
+use Rattle.std.proofs.Common.{◌≡◌, ℕ, zero, suc, ◌+◌, ◌*◌, ◌%◌, ◌<◌, ◌≤◌, Bool, true, false, cond, ◌&&◌, eqb, ltb, leb, ◌⊎◌, List, [], ◌∷◌, ◌++◌, map, length, take, drop, Some, None, Ok, Err, Option, Result, sym, refl, ap, ◌∙◌, subst, inl, inr, arith, length-append, take-append-drop}
 use lib.ListN.{length-map}
 use lib.Seq.{take-append-add}
 use Rattle.std.proofs.lemmas.List.{take_at, take-take, append-nil, length-take-le}
@@ -15,14 +15,14 @@ use Rattle.terms.specs.Scan.{fault}
 use Rattle.terms.specs.Whole.{Begins, FirstFault}
 use Rattle.terms.specs.Whole
 use Rattle.terms.proofs.Fault.{judged}
-use Rattle.calculus.specs.Tables.{given_entries, LaidDown, TableJudged}
+use Rattle.calculus.specs.Tables.{given_entries, LaidDown}
 use Rattle.types.proofs.Laid.{laid_given, laid_front}
 use Rattle.rule_file.specs.declared.load.Loaded.{Loaded}
 use Rattle.rule_file.specs.Files.{Rule, file_of, Bytes}
-use Rattle.rule_file.specs.Records.{sort_by_mark, is_head, entry_of, node_of}
-use Rattle.rule_file.specs.Loading.{or_else, type_count, node_count, type_records, node_records, head_fits_lem, head_question, room_question, type_questions, node_questions, body_question, load_question, entries_in, nodes_in, in_file, answer_of_lem, load_answer, filled, LoadCall}
-use Rattle.rule_file.specs.Writing.{CountsFit, file_length, Writable, Unwritable, WriteCall}
-use Rattle.rule_file.specs.Accepted.{Roomy, Holds, LoadedRule, TypePlace, NodePlace, Placed, RefusedAt, WritesBack, LoadsBack}
+use Rattle.rule_file.specs.Records.{sort_by_mark, is_head, entry_of}
+use Rattle.rule_file.specs.Loading.{or_else, type_count, node_count, type_records, node_records, head_fits_lem, head_question, room_question, type_questions, node_questions, body_question, load_question, entries_in, nodes_in, in_file, answer_of_lem, filled, LoadCall}
+use Rattle.rule_file.specs.Writing.{CountsFit, file_length, Unwritable, WriteCall}
+use Rattle.rule_file.specs.Accepted.{Holds, LoadedRule, TypePlace, NodePlace, Placed, RefusedAt, WritesBack, LoadsBack}
 use Rattle.rule_file.proofs.Questions.{no_question, or_else_none, or_else_some}
 use Rattle.rule_file.proofs.TypeRecords.{OnType, types_refused}
 use Rattle.rule_file.proofs.NodeRecords.{OnNode, nodes_refused}

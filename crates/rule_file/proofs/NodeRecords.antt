@@ -1,7 +1,7 @@
 -- What the questions on node records mean for terms. Assumes nothing.
-use Rattle.std.proofs.Common.{◌≡◌, ℕ, zero, suc, ◌+◌, ◌-◌, ◌<◌, ◌≤◌, Bool, true, false, cond, not, ◌&&◌, eqb, ltb, ◌⊎◌, List, [], ◌∷◌, ◌++◌, map, length, get_or, take, Some, None, Option, sym, refl, ap, ◌∙◌, subst, inl, inr, add-zero, add_comm, arith}
+use Rattle.std.proofs.Common.{◌≡◌, ℕ, zero, suc, ◌+◌, ◌-◌, ◌≤◌, Bool, true, false, cond, ◌&&◌, eqb, ◌⊎◌, List, [], ◌∷◌, ◌++◌, map, length, get_or, take, Some, None, Option, sym, refl, ap, ◌∙◌, subst, inl, inr, add-zero, arith}
 use Rattle.std.specs.List.{flat_map}
-use Rattle.std.proofs.lemmas.Bool.{true≢false, and_parts, and_from, eqb-true, cases_Bool}
+use Rattle.std.proofs.lemmas.Bool.{true≢false, and_parts, eqb-true, cases_Bool}
 use Rattle.std.proofs.lemmas.Bool.Decides.{nat_tests}
 use Rattle.calculus.specs.declared.node.Node.{Node}
 use Rattle.calculus.specs.declared.refusal.Question.{Question}
@@ -11,8 +11,8 @@ use Rattle.terms.specs.Ranges.{in_range}
 use Rattle.terms.specs.Scan.{fault, further}
 use Rattle.terms.proofs.Places.{some_none, further_none}
 use Rattle.rule_file.specs.Files.{node_bytes}
-use Rattle.rule_file.specs.Records.{sort_by_mark, is_node, first_number_lem, second_number_lem, kind_in, node_of}
-use Rattle.rule_file.specs.Loading.{or_else, node_question, node_questions}
+use Rattle.rule_file.specs.Records.{sort_by_mark, is_node, second_number_lem, kind_in, node_of}
+use Rattle.rule_file.specs.Loading.{node_question, node_questions}
 use Rattle.rule_file.proofs.Decode.{node_back, present_node, node_forth, in_range_fits, in_range_present}
 use Rattle.rule_file.proofs.Pieces.{itself, Sixes}
 use Rattle.rule_file.proofs.Questions.{no_question, or_else_none, or_else_some, or_else_parts, or_else_both}

@@ -1,9 +1,9 @@
 -- Lists made of pieces of six: written one after the other, and cut again. Assumes nothing.
-use Rattle.std.proofs.Common.{◌≡◌, ℕ, zero, suc, ◌+◌, ◌-◌, ◌*◌, ◌<◌, ◌≤◌, List, [], ◌∷◌, ◌++◌, map, length, get_or, take, drop, sym, refl, ap, ◌∙◌, suc-add, zero-add, arith, length-append, take-append-drop, length-take}
-use borrow.Rule.Slice.PartMut.{put_mid, post_of}
+use Rattle.std.proofs.Common.{◌≡◌, ℕ, zero, suc, ◌+◌, ◌*◌, ◌<◌, ◌≤◌, List, [], ◌∷◌, ◌++◌, map, length, get_or, take, drop, sym, refl, ap, ◌∙◌, suc-add, zero-add, arith, length-append, take-append-drop}
+use borrow.Rule.Slice.PartMut.{put_mid}
 use Rattle.std.specs.List.{flat_map}
 use Rattle.std.specs.Simd.{first_chunks}
-use Rattle.std.proofs.lemmas.List.{append_assoc, take_more, take_all, take_at, drop_at, drop-drop, length-take-le, length-drop, get_or-drop, flat_map_more}
+use Rattle.std.proofs.lemmas.List.{append_assoc, take_more, take_at, drop_at, drop-drop, length-take-le, length-drop, get_or-drop, flat_map_more}
 use Rattle.std.proofs.lemmas.Slice.{drop-append-drop}
 use Rattle.rule_file.specs.Files.{Bytes}
 

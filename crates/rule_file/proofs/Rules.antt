@@ -1,25 +1,24 @@
 -- A file is loaded exactly where it is the file of a rule. Assumes nothing.
-use Rattle.std.proofs.Common.{◌≡◌, ℕ, zero, suc, ◌+◌, ◌-◌, ◌*◌, ◌/◌, ◌%◌, ◌<◌, ◌≤◌, Bool, true, false, cond, not, ◌&&◌, eqb, ltb, leb, List, [], ◌∷◌, ◌++◌, map, length, get_or, take, drop, Some, None, Option, sym, refl, ap, ◌∙◌, subst, add-zero, arith, length-append, take-append-drop}
+use Rattle.std.proofs.Common.{◌≡◌, ℕ, suc, ◌+◌, ◌-◌, ◌*◌, ◌/◌, ◌%◌, ◌≤◌, Bool, true, false, cond, ◌&&◌, eqb, ltb, leb, List, [], ◌∷◌, ◌++◌, map, length, take, drop, Some, None, Option, sym, refl, ap, ◌∙◌, subst, arith, length-append, take-append-drop}
 use native.Mathlib.Nat.{mul-div_right}
 use lib.ListN.{length-map}
 use Rattle.std.specs.List.{flat_map}
 use Rattle.std.specs.Simd.{first_chunks}
 use Rattle.std.proofs.lemmas.List.{append_assoc, append-nil, length-take-le, length-drop, take_at, take_all, drop_at, get_or-take}
-use Rattle.std.proofs.lemmas.Bool.{true≢false, and_parts, and_from, eqb-true, ltb-true, lt-ltb, leb-true, le-leb, eq-eqb}
+use Rattle.std.proofs.lemmas.Bool.{true≢false, and_parts, and_from, eqb-true, lt-ltb, leb-true, le-leb, eq-eqb}
 use Rattle.calculus.specs.declared.entry.Entry.{Entry}
 use Rattle.calculus.specs.declared.node.Node.{Node}
 use Rattle.calculus.specs.declared.refusal.Question.{Question}
 use Rattle.calculus.specs.declared.refusal.Question.TheVariants.{FileLength, FileHead, FileRecords, TableRoom}
-use Rattle.calculus.specs.Forms.{empty}
 use Rattle.terms.specs.Scan.{fault}
 use Rattle.terms.specs.Whole.{OneTerm}
 use Rattle.terms.proofs.Fault.{judged, fault_of_term}
 use Rattle.terms.proofs.Places.{some_none}
 use Rattle.calculus.specs.Tables.{given_entries, LaidDown}
 use Rattle.types.proofs.Laid.{laid_given}
-use Rattle.rule_file.specs.Files.{Rule, low_high, head_bytes, entry_bytes, node_bytes, file_of, Bytes}
+use Rattle.rule_file.specs.Files.{Rule, head_bytes, entry_bytes, node_bytes, file_of, Bytes}
 use Rattle.rule_file.specs.Records.{sort_by_mark, is_head, first_number_lem, second_number_lem, entry_of, node_of}
-use Rattle.rule_file.specs.Loading.{or_else, records, type_count, node_count, type_records, node_records, head_fits_lem, head_question, room_question, type_questions, node_questions, body_question, load_question, entries_in, nodes_in}
+use Rattle.rule_file.specs.Loading.{records, type_count, node_count, type_records, node_records, head_fits_lem, head_question, room_question, type_questions, node_questions, load_question, entries_in, nodes_in}
 use Rattle.rule_file.specs.Accepted.{Roomy}
 use Rattle.rule_file.proofs.Marks.{entry_six, node_six}
 use Rattle.rule_file.proofs.Decode.{number_low_high, head_back}

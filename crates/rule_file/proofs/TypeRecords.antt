@@ -1,17 +1,17 @@
 -- What the questions on type records mean for type tables. Assumes nothing.
-use Rattle.std.proofs.Common.{◌≡◌, ℕ, zero, suc, ◌+◌, ◌-◌, ◌<◌, ◌≤◌, Bool, true, false, cond, not, ◌&&◌, eqb, ltb, ◌⊎◌, List, [], ◌∷◌, ◌++◌, map, length, get_or, take, Some, None, Option, sym, refl, ap, ◌∙◌, subst, inl, inr, add-zero, add_assoc, arith, length-append}
+use Rattle.std.proofs.Common.{◌≡◌, ℕ, zero, suc, ◌+◌, ◌<◌, ◌≤◌, Bool, true, false, cond, not, ◌&&◌, ltb, ◌⊎◌, List, [], ◌∷◌, ◌++◌, map, length, get_or, take, Some, None, Option, sym, refl, ap, ◌∙◌, subst, inl, inr, add-zero, arith, length-append}
 use Rattle.std.specs.List.{flat_map}
-use Rattle.std.proofs.lemmas.List.{append_assoc, append-nil, length_push}
-use Rattle.std.proofs.lemmas.Bool.{true≢false, and_parts, and_from, ltb-true, le-ltb, lt-ltb, cases_Bool}
+use Rattle.std.proofs.lemmas.List.{append_assoc, append-nil}
+use Rattle.std.proofs.lemmas.Bool.{true≢false, and_parts, and_from, ltb-true, le-ltb}
 use Rattle.calculus.specs.declared.entry.Entry.{Entry}
 use Rattle.calculus.specs.declared.refusal.Question.{Question}
 use Rattle.calculus.specs.declared.refusal.Question.TheVariants.{SectionMark, NumberRange, TypeNew}
 use Rattle.calculus.specs.Forms.{joins, empty}
 use Rattle.calculus.specs.Tables.{given_entries, same_entry, occurs, laid, LaidDown}
-use Rattle.types.proofs.Laid.{laid_more, laid_last, laid_front, laid_given}
+use Rattle.types.proofs.Laid.{laid_more, laid_last, laid_front}
 use Rattle.rule_file.specs.Files.{entry_bytes}
-use Rattle.rule_file.specs.Records.{sort_by_mark, is_type, first_number_lem, second_number_lem, form_in, entry_of}
-use Rattle.rule_file.specs.Loading.{or_else, type_question, type_questions}
+use Rattle.rule_file.specs.Records.{sort_by_mark, is_type, first_number_lem, second_number_lem, entry_of}
+use Rattle.rule_file.specs.Loading.{type_question, type_questions}
 use Rattle.rule_file.proofs.Decode.{type_back, type_joins, joins_type, entry_forth}
 use Rattle.rule_file.proofs.Pieces.{itself, Sixes}
 use Rattle.rule_file.proofs.Questions.{no_question, or_else_none, or_else_some, or_else_parts, or_else_both}

@@ -1,17 +1,11 @@
 -- The three parts of a file, written one after the other. Assumes nothing.
-use Rattle.std.proofs.Common.{◌≡◌, ℕ, ◌+◌, ◌-◌, ◌*◌, ◌≤◌, List, [], ◌∷◌, ◌++◌, length, take, drop, sym, refl, ap, ◌∙◌, arith, length-append}
+use Rattle.std.proofs.Common.{◌≡◌, ℕ, ◌+◌, ◌-◌, ◌*◌, ◌≤◌, List, ◌++◌, length, take, drop, sym, ap, ◌∙◌, arith, length-append}
 use Rattle.std.specs.List.{flat_map}
-use Rattle.std.proofs.lemmas.List.{append_assoc, append-nil, length-take-le, length-drop}
+use Rattle.std.proofs.lemmas.List.{append_assoc, length-take-le, length-drop}
 use Rattle.std.proofs.lemmas.Slice.{between_is}
 use Rattle.calculus.specs.declared.entry.Entry.{Entry}
-use Rattle.calculus.specs.declared.form.Form.{Form}
-use Rattle.calculus.specs.declared.form.Form.TheVariants as form
-use Rattle.calculus.specs.declared.kind.Kind.{Kind}
-use Rattle.calculus.specs.declared.kind.Kind.TheVariants.{Blank, Variable, Zero, Successor, Rec, Lambda, Apply, Triv, Pair, Fst, Snd, Abort, Inl, Inr, Case, Query}
 use Rattle.calculus.specs.declared.node.Node.{Node}
-use Rattle.calculus.specs.Kinds.{kind_mark}
-use Rattle.calculus.specs.Forms.{form_mark}
-use Rattle.rule_file.specs.Files.{low_high, head_bytes, entry_bytes, node_bytes, file_of}
+use Rattle.rule_file.specs.Files.{head_bytes, entry_bytes, node_bytes, file_of}
 use Rattle.rule_file.specs.Writing.{file_length}
 use Rattle.rule_file.proofs.Marks.{entry_six, node_six}
 use Rattle.rule_file.proofs.Pieces.{put_next, length_joined}

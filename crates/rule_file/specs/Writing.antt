@@ -13,7 +13,7 @@ use Rattle.calculus.specs.declared.refusal.Question.TheVariants.{FileLength, Fil
 use Rattle.calculus.specs.declared.refusal.Refusal.{Refusal}
 use Rattle.terms.specs.Whole
 use Rattle.calculus.specs.Tables.{LaidDown, TableJudged}
-use Rattle.rule_file.specs.Files.{Rule, file_of}
+use Rattle.rule_file.specs.Files.{file_of}
 use Rattle.rule_file.specs.Loading.{in_file}
 
 -- 1 to 4,096 nodes, and a count from 6 to 1,030 and within the table

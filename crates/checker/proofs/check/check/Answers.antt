@@ -1,4 +1,4 @@
-use Rattle.std.proofs.Common.{◌≡◌, ℕ, length, take, sym, refl, ◌∙◌, subst, arith}
+use Rattle.std.proofs.Common.{ℕ, length, take, sym, refl, ◌∙◌, subst}
 use Rattle.refusals.specs.declared.Refusal.{Refusal}
 use Rattle.checker.specs.Checking.{RejectCall, RefuseCall, before, during}
 use Rattle.checker.proofs.Checks.{exactly_accepted, exactly_rejected, exactly_unchecked, accepted_rule, same_accept}

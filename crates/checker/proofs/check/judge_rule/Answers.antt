@@ -1,4 +1,4 @@
-use Rattle.std.proofs.Common.{◌≡◌, length, sym, refl, ap, ◌∙◌, arith, rules}
+use Rattle.std.proofs.Common.{◌≡◌, length, sym, ap, ◌∙◌, arith, rules}
 use Rattle.checker.specs.Checking.{zeros}
 use Rattle.checker.proofs.Checks.{accept_call, reject_call, small_zeros}
 use Rattle.checker.proofs.check.judge_rule.Goals as goal

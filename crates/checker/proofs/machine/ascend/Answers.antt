@@ -1,9 +1,8 @@
-use Rattle.std.proofs.Common.{◌≡◌, ℕ, ◌-◌, ◌^◌, ◌<◌, List, length, take, sym, ap, ◌∙◌, subst, arith}
+use Rattle.std.proofs.Common.{◌-◌, ◌^◌, ◌<◌, length, take, sym, ap, ◌∙◌, subst, arith}
 use Rattle.checker.specs.declared.frame.Frame.{Frame}
-use Rattle.checker.specs.declared.rules.Reaction.{Reaction}
 use Rattle.checker.specs.declared.rules.Reaction.TheVariants.{Done, Build, Next, Reject}
 use Rattle.checker.specs.Frames.{Small, frame, frame_at, stack, context, bind, unbind}
-use Rattle.checker.specs.Machine.{KeptFits, reaction_of}
+use Rattle.checker.specs.Machine.{KeptFits}
 use Rattle.checker.proofs.Stacks.{small_frame, place_small}
 use Rattle.checker.proofs.Turns.{reacted, done_step, build_step, next_step, reject_step, same_keeps, added_front, added_keeps}
 use Rattle.checker.proofs.machine.ascend.Goals as goal

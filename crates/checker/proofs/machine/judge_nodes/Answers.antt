@@ -1,9 +1,8 @@
-use Rattle.std.proofs.Common.{◌≡◌, ℕ, ◌<◌, [], length, take, sym, refl, ap, ◌∙◌, subst, arith}
+use Rattle.std.proofs.Common.{◌<◌, [], take, sym, ◌∙◌, subst, arith}
 use Rattle.std.proofs.lemmas.List.{length-take-le}
-use Rattle.calculus.specs.Syntax.{Term, flat}
 use Rattle.checker.specs.declared.machine.Turn.TheVariants.{Go}
 use Rattle.checker.specs.Trees.{view}
-use Rattle.checker.specs.Judging.{Outcome, judge_term}
+use Rattle.checker.specs.Judging.{judge_term}
 use Rattle.checker.specs.Machine.{Step, step_after}
 use Rattle.checker.proofs.Tracks.{Good, good_start}
 use Rattle.checker.proofs.Readies.{Room, ready, good_step, falls, left}

@@ -1,4 +1,4 @@
-use Rattle.std.proofs.Common.{◌≡◌, ℕ, List, take, Option, sym, refl, ap, ◌∙◌, arith}
+use Rattle.std.proofs.Common.{List, take, Option, sym, ap, ◌∙◌, arith}
 use Rattle.checker.specs.declared.machine.Finished.{Finished}
 use Rattle.checker.specs.declared.frame.Frame.{Frame}
 use Rattle.checker.specs.Frames.{stack, context}

@@ -14,6 +14,6 @@ returns g c = record {
   call =
       loaded_judged c.args.file.now c.args.memory.nodes.now c.args.memory.types.now c.args.memory.scratch.now c.args.memory.front.now
       c.args.memory.back.now (g.H.Host.meaning c.args.host.now) c.args.fuel c.in-Ok.loaded c.load.new.nodes c.load.new.types
-      c.decide-loaded.result c.decide-loaded.new.front c.in-Ok.ensures.rule c.decide-loaded.ensures.judged;
-  kept = c.decide-loaded.ensures.kept;
+      c.decide_loaded.result c.decide_loaded.new.front c.in-Ok.ensures.rule c.decide_loaded.ensures.judged;
+  kept = c.decide_loaded.ensures.kept;
 }

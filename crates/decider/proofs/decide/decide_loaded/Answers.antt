@@ -1,4 +1,4 @@
-use Rattle.std.proofs.Common.{◌≡◌, List, sym, refl, ap, ◌∙◌, subst, Bor}
+use Rattle.std.proofs.Common.{◌≡◌, List, sym, ap, ◌∙◌, subst, Bor}
 use Rattle.calculus.specs.declared.node.Node.{Node}
 use Rattle.calculus.specs.Meanings.{Meaning}
 use Rattle.decider.specs.Deciding.{Ends, rejected, run}
@@ -17,7 +17,7 @@ returns-in-Ok g c =
     record {
       judged =
           run call.rule c.in-Ok.acceptance.type_number call.left call.is call.accepts
-          (subst (λ (m : Meaning). Ends m c.args.fuel call.rule c.in-Ok.acceptance.type_number c.args.front.now c.args.back.now c.run-accepted.result c.run-accepted.new.front)
-          c.in-Ok.ensures.kept (c.run-accepted.ensures.ends call.rule (call.is ∙ sym same)));
-      kept = c.run-accepted.ensures.kept ∙ c.in-Ok.ensures.kept;
+          (subst (λ (m : Meaning). Ends m c.args.fuel call.rule c.in-Ok.acceptance.type_number c.args.front.now c.args.back.now c.run_accepted.result c.run_accepted.new.front)
+          c.in-Ok.ensures.kept (c.run_accepted.ensures.ends call.rule (call.is ∙ sym same)));
+      kept = c.run_accepted.ensures.kept ∙ c.in-Ok.ensures.kept;
     }

@@ -1,7 +1,7 @@
-use Rattle.std.proofs.Common.{◌≡◌, ℕ, ◌<◌, ◌≤◌, Err, sym, refl, ◌∙◌, subst, arith}
-use Rattle.calculus.specs.Meanings.{Meaning, Lawful}
+use Rattle.std.proofs.Common.{◌≤◌, Err, refl, ◌∙◌, subst, arith}
+use Rattle.calculus.specs.Meanings.{Meaning}
 use Rattle.evaluator.specs.OneCall.{State, RunMade, RunCall}
-use Rattle.decider.proofs.Slicing.{Slicing, slicing_first, slicing_on, sliced_ran, sliced_refused}
+use Rattle.decider.proofs.Slicing.{slicing_first, slicing_on, sliced_ran, sliced_refused}
 use Rattle.decider.proofs.slices.run_slices.Goals as goal
 use Rattle.decider.proofs.slices.run_slices.Goals.{then-slice-eq0, else-slice-eq0, then-most-left, else-most-left}
 

@@ -1,4 +1,4 @@
-use Rattle.std.proofs.Common.{◌∙◌, inr, rules}
+use Rattle.std.proofs.Common.{inr, rules}
 use Rattle.hosts.proofs.host.ask_twice.Goals as goal
 
 pub returns : goal.returns

@@ -1,4 +1,4 @@
-use Rattle.std.proofs.Common.{◌≡◌, ◌+◌, ◌-◌, ◌<◌, length, Some, sym, ap, ◌∙◌, subst, arith, length-set}
+use Rattle.std.proofs.Common.{◌≡◌, ◌+◌, ◌<◌, length, Some, sym, ap, ◌∙◌, subst, arith, length-set}
 use Rattle.terms.specs.Scan.{shift}
 use Rattle.terms.proofs.Places.{shift_zero}
 use Rattle.rewriter.specs.Depths.{Within}

@@ -1,4 +1,4 @@
-use Rattle.std.proofs.Common.{◌≡◌, ℕ, ◌-◌, ◌≤◌, ◌⊎◌, List, length, Option, sym, ap, ◌∙◌, inl, inr, arith}
+use Rattle.std.proofs.Common.{◌≡◌, ℕ, ◌≤◌, ◌⊎◌, List, length, Option, sym, ap, ◌∙◌, inl, inr, arith}
 use Rattle.calculus.specs.declared.node.Node.{Node}
 use Rattle.rewriter.specs.declared.focus.Role.TheVariants as role
 use Rattle.rewriter.specs.declared.focus.Focus.{Focus}

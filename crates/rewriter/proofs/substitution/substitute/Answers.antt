@@ -1,4 +1,4 @@
-use Rattle.std.proofs.Common.{◌+◌, ◌-◌, [], ◌∷◌, ◌++◌, take, drop, sym, refl, ap, ◌∙◌, subst, arith, length-set}
+use Rattle.std.proofs.Common.{◌+◌, [], ◌∷◌, ◌++◌, take, drop, sym, refl, ap, ◌∙◌, subst, arith, length-set}
 use Rattle.rewriter.specs.Depths.{Within}
 use Rattle.rewriter.specs.Substituted.{substituted}
 use Rattle.rewriter.proofs.Stacks.{one_depth, within_top, within_more}

@@ -1,4 +1,4 @@
-use Rattle.std.proofs.Common.{◌≡◌, ◌≤◌, sym, ap, ◌∙◌, arith}
+use Rattle.std.proofs.Common.{◌≤◌, sym, ap, ◌∙◌, arith}
 use Rattle.calculus.specs.Kinds.{arity}
 use Rattle.terms.proofs.Fault.{arity_le}
 use Rattle.rule_file.proofs.Questions.{node_more, node_here, node_ended, node_unended}

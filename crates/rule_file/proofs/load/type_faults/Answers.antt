@@ -1,4 +1,4 @@
-use Rattle.std.proofs.Common.{◌≡◌, ◌+◌, ◌-◌, ◌<◌, ◌≤◌, length, sym, ◌∙◌, arith, length-set}
+use Rattle.std.proofs.Common.{◌+◌, ◌-◌, ◌<◌, length, sym, ◌∙◌, arith, length-set}
 use Rattle.rule_file.proofs.Questions.{type_more, type_here, type_end, entries_more, entries_all, no_question}
 use Rattle.rule_file.proofs.load.type_faults.Goals as goal
 

@@ -1,4 +1,4 @@
-use Rattle.std.proofs.Common.{◌≡◌, ◌+◌, ◌≤◌, ◌++◌, map, length, take, drop}
+use Rattle.std.proofs.Common.{◌≡◌, ◌+◌, ◌++◌, map, length, take, drop}
 use Rattle.calculus.specs.Tables.{given_entries}
 use Rattle.rule_file.specs.Records.{entry_of}
 use Rattle.rule_file.specs.Loading.{type_questions}

@@ -1,5 +1,5 @@
 use native.Mathlib.Nat.{sub-zero}
-use Rattle.std.proofs.Common.{length, take, sym, ◌∙◌, arith}
+use Rattle.std.proofs.Common.{take, sym, ◌∙◌, arith}
 use Rattle.std.proofs.lemmas.List.{length-take-le}
 use Rattle.types.proofs.Adding.{index_found, index_missing, kept_found, set_missing}
 use Rattle.types.proofs.table.add.Goals as goal
