@@ -19,10 +19,10 @@ length_trees_after ts (e ∷ es) =
 pub length_trees : (es : List Entry) → length (trees es) ≡ length es
 length_trees es = omega (arith, length_trees_after [] es)
 
-getD_trees_after : (ts : List Ty) (es : List Entry) (n : ℕ) → n < length ts → get_or (trees_after ts es) n nat ≡ get_or ts n nat
-getD_trees_after ts [] n h = refl
-getD_trees_after ts (e ∷ es) n h =
-    getD_trees_after (ts ++ (tree ts e ∷ [])) es n (omega (arith, length-append ts (tree ts e ∷ [])))
+get_or_trees_after : (ts : List Ty) (es : List Entry) (n : ℕ) → n < length ts → get_or (trees_after ts es) n nat ≡ get_or ts n nat
+get_or_trees_after ts [] n h = refl
+get_or_trees_after ts (e ∷ es) n h =
+    get_or_trees_after (ts ++ (tree ts e ∷ [])) es n (omega (arith, length-append ts (tree ts e ∷ [])))
     ∙ get_or_append_left ts (tree ts e ∷ []) nat n h
 
 trees_after_append : (ts : List Ty) (es more : List Entry) → trees_after ts (es ++ more) ≡ trees_after (trees_after ts es) more
@@ -32,7 +32,7 @@ trees_after_append ts (e ∷ es) more = trees_after_append (ts ++ (tree ts e ∷
 pub readings_kept : (es more : List Entry) (n : ℕ) → n < length es → reading (es ++ more) n ≡ reading es n
 readings_kept es more n h =
     ap (λ (ts : List Ty). get_or ts n nat) (trees_after_append [] es more)
-    ∙ getD_trees_after (trees es) more n (omega (arith, length_trees es))
+    ∙ get_or_trees_after (trees es) more n (omega (arith, length_trees es))
 
 -- the reading of a beginning of a table
 reading_take : (es : List Entry) (i n : ℕ) → n < i → i ≤ length es → reading (take i es) n ≡ reading es n
@@ -44,7 +44,7 @@ reading_seam : (fs : List Entry) (e : Entry) (more : List Entry) (n : ℕ) → l
     → reading (fs ++ e ∷ more) n ≡ tree (trees fs) e
 reading_seam fs e more n p =
     ap (λ (ts : List Ty). get_or ts n nat) (trees_after_append [] fs (e ∷ more))
-    ∙ getD_trees_after (trees fs ++ (tree (trees fs) e ∷ [])) more n
+    ∙ get_or_trees_after (trees fs ++ (tree (trees fs) e ∷ [])) more n
     (omega (arith, length-append (trees fs) (tree (trees fs) e ∷ []), length_trees fs))
     ∙ get_or_at (trees fs) (tree (trees fs) e) [] nat n (omega (arith, length_trees fs))
 

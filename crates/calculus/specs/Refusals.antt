@@ -1,5 +1,5 @@
 -- What each refusal says: layer, number, place and child.
---   layer_number_lem       the number of a layer
+--   layer_number_lem   the number of a layer
 --   question_numbers   number, place and child of a question that was answered no
 --   report_of          the four numbers of a refusal
 -- Assumes nothing.

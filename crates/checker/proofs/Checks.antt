@@ -138,19 +138,19 @@ small_zeros_at zero i = refl
 small_zeros_at (suc n) zero = refl
 small_zeros_at (suc n) (suc i) = small_zeros_at n i
 
-get_d_front : (xs ys : List ℕ) (i : ℕ) → ((j : ℕ) → get_or (xs ++ ys) j 0 ≡ 0) → get_or xs i 0 ≡ 0
-get_d_front [] ys i z = refl
-get_d_front (x ∷ xs) ys zero z = z 0
-get_d_front (x ∷ xs) ys (suc i) z = get_d_front xs ys i (λ j. z (suc j))
+get_or_front : (xs ys : List ℕ) (i : ℕ) → ((j : ℕ) → get_or (xs ++ ys) j 0 ≡ 0) → get_or xs i 0 ≡ 0
+get_or_front [] ys i z = refl
+get_or_front (x ∷ xs) ys zero z = z 0
+get_or_front (x ∷ xs) ys (suc i) z = get_or_front xs ys i (λ j. z (suc j))
 
-getD_back : (xs ys : List ℕ) (i : ℕ) → ((j : ℕ) → get_or (xs ++ ys) j 0 ≡ 0) → get_or ys i 0 ≡ 0
-getD_back [] ys i z = z i
-getD_back (x ∷ xs) ys i z = getD_back xs ys i (λ j. z (suc j))
+get_or_back : (xs ys : List ℕ) (i : ℕ) → ((j : ℕ) → get_or (xs ++ ys) j 0 ≡ 0) → get_or ys i 0 ≡ 0
+get_or_back [] ys i z = z i
+get_or_back (x ∷ xs) ys i z = get_or_back xs ys i (λ j. z (suc j))
 
 pub small_zeros : (n : ℕ) (xs ys : List ℕ) → zeros n ≡ xs ++ ys → Small xs × Small ys
 small_zeros n xs ys e =
     let z : (j : ℕ) → get_or (xs ++ ys) j 0 ≡ 0 = λ j. ap (λ l. get_or l j 0) (sym e) ∙ small_zeros_at n j in
-    (λ i. omega (arith, get_d_front xs ys i z), λ i. omega (arith, getD_back xs ys i z))
+    (λ i. omega (arith, get_or_front xs ys i z), λ i. omega (arith, get_or_back xs ys i z))
 
 -- a rule that does not pass 10 to 13 is no rule past them
 pub exactly_unchecked : (nodes : List Node) (types : List Entry) (count words profile : ℕ) (q : Question) (left : List Entry)

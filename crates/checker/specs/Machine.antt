@@ -5,7 +5,7 @@
 --   reach_by, reached   what reaching a node comes to
 --   take_by, reaction_of, taken   what finishing a node comes to
 --   stepped       one turn
---   step_after        what a turn of the code came to, by the numbers that hold its frames and binders
+--   step_after    what a turn of the code came to, by the numbers that hold its frames and binders
 --   outcome_of    the outcome that an answer of the code stands for
 --   count_after   the count of entries after a turn
 --   Keeps         a type table with c entries becomes one with d, of which the first c are the same

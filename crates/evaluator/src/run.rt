@@ -22,7 +22,7 @@ fn run_question<H: Host>(
     host: &mut H,
 ) -> Result<Held, Question>
     requires { 8196 ≤ length depths.old }
-    ensures value { MatchResult result (λ h. Runnable (H.meaning host.old) fuel (record { run = run.entry.now; front = front.now; back = back.now }) h) (λ q. RunRefused (H.meaning host.old) fuel (record { run = run.entry.now; front = front.now; back = back.now }) q) }
+    ensures value { MatchResult result (λ h. Runnable (H.meaning host.old) fuel (record { run = run.now; front = front.now; back = back.now }) h) (λ q. RunRefused (H.meaning host.old) fuel (record { run = run.now; front = front.now; back = back.now }) q) }
     ensures kept { H.meaning host.new ≡ H.meaning host.old }
 {
     let Some(held) = run.held else {
@@ -56,7 +56,7 @@ pub fn run<H: Host>(
     back: &mut [Node],
     host: &mut H,
 ) -> Result<Ran, Refusal>
-    ensures call { RunCall (H.meaning host.old) fuel (record { run = run.entry.now; front = front.old; back = back.old }) result (record { run = run.exit.now; front = front.new; back = back.new }) }
+    ensures call { RunCall (H.meaning host.old) fuel (record { run = run.old; front = front.old; back = back.old }) result (record { run = run.new; front = front.new; back = back.new }) }
     ensures kept { H.meaning host.new ≡ H.meaning host.old }
 {
     let mut depths = [0; DEPTHS];

@@ -6,7 +6,7 @@
 --   legal_line       whether a line is legal by a profile: its question is there, its number may be asked, its answer is legal
 --   shape_answer     the answer that a and b are in a shape
 --   answer_in        the same in a shape or none
---   line_for_lem         the first line for a question at a number, or none
+--   line_for_lem     the first line for a question at a number, or none
 -- Assumes nothing.
 use Rattle.std.specs.Prelude.{ℕ, Bool, false, cond, ◌&&◌, List, [], ◌∷◌, Some, None, Option, ◌==◌, nat_le, nat_lt}
 use Rattle.calculus.specs.declared.answer.Answer.{Answer}

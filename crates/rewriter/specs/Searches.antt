@@ -1,13 +1,13 @@
 -- The search for the redex on a flat list, in one pass from the left, and the choice of its rule.
---   role_of_lem         what a node of a kind is to evaluation
+--   role_of_lem     what a node of a kind is to evaluation
 --   focused         where evaluation stands once all wanted values are there
 --   focus           where evaluation of a list's terms stands: `focus last wanted passing i ns` has read i nodes, ns is what
 --                   is left, `last` is the last eliminator seen, `wanted` values are still to come for it (or for the whole
 --                   term), and `passing` terms are to be passed over
 --   same            whether two kinds are one
---   rule_for_lem        the rule for an eliminator, by the kind of its first child
+--   rule_for_lem    the rule for an eliminator, by the kind of its first child
 --   numeral_in      the number of the numeral that a list begins with, or none
---   answer_rule_lem     the rule for a query of a number or of no number
+--   answer_rule_lem the rule for a query of a number or of no number
 --   first_kind      the kind of a list's first node
 --   rule_in         the rule for the eliminator that a list begins with, which has its values
 -- What they mean over trees is said in Redexes. Assumes nothing.

@@ -20,7 +20,7 @@ use Rattle.types.proofs.Laid.{laid_given, laid_front}
 use Rattle.rule_file.specs.declared.load.Loaded.{Loaded}
 use Rattle.rule_file.specs.Files.{Rule, file_of, Bytes}
 use Rattle.rule_file.specs.Records.{sort_by_mark, is_head, entry_of}
-use Rattle.rule_file.specs.Loading.{or_else, type_count, node_count, type_records, node_records, head_fits_lem, head_question, room_question, type_questions, node_questions, body_question, load_question, entries_in, nodes_in, in_file, answer_of_lem, filled, LoadCall}
+use Rattle.rule_file.specs.Loading.{or_else, type_count, node_count, type_records, node_records, head_fits_lem, head_question, room_question, type_questions, node_questions, body_question, load_question, entries_in, nodes_in, in_file, answer_of, filled, LoadCall}
 use Rattle.rule_file.specs.Writing.{CountsFit, file_length, Unwritable, WriteCall}
 use Rattle.rule_file.specs.Accepted.{Holds, LoadedRule, TypePlace, NodePlace, Placed, RefusedAt, WritesBack, LoadsBack}
 use Rattle.rule_file.proofs.Questions.{no_question, or_else_none, or_else_some}
@@ -33,11 +33,11 @@ some_same e = cc
 
 -- Answers.
 
-ok_answer : (x l : Loaded) (o : Option Question) → answer_of_lem x o ≡ Ok l → (o ≡ None) × (x ≡ l)
+ok_answer : (x l : Loaded) (o : Option Question) → answer_of x o ≡ Ok l → (o ≡ None) × (x ≡ l)
 ok_answer x l None e = (refl, cc)
 ok_answer x l (Some q) e = absurd (let z : ◌≡◌ {A = ℕ} 0 1 = cc in omega arith)
 
-err_answer : (x : Loaded) (r : Refusal) (o : Option Question) → answer_of_lem x o ≡ Err r → (q : Question) × (o ≡ Some q) × (r ≡ in_file q)
+err_answer : (x : Loaded) (r : Refusal) (o : Option Question) → answer_of x o ≡ Err r → (q : Question) × (o ≡ Some q) × (r ≡ in_file q)
 err_answer x r None e = absurd (let z : ◌≡◌ {A = ℕ} 0 1 = cc in omega arith)
 err_answer x r (Some q) e = (q, refl, cc)
 
@@ -154,23 +154,23 @@ node_placed file q h e =
     first_or (inr b) = inr b
 
 -- each question of load in turn
-load_placed : (file : List ℕ) (node-room type-room : ℕ) (q : Question) → load_question file node-room type-room ≡ Some q → Placed file q
-load_placed file node-room type-room q e = at_head (head_question file) refl
+load_placed : (file : List ℕ) (node_room type_room : ℕ) (q : Question) → load_question file node_room type_room ≡ Some q → Placed file q
+load_placed file node_room type_room q e = at_head (head_question file) refl
   where
     at_body : Headed file → (o : Option Question) → type_questions 1 given_entries (type_records file) ≡ o → body_question file ≡ Some q → Placed file q
     at_body h None o f = node_placed file q h (sym (or_else_none (type_questions 1 given_entries (type_records file)) _ o) ∙ f)
     at_body h (Some w) o f = type_placed file q h (o ∙ sym (or_else_some (type_questions 1 given_entries (type_records file)) _ w o) ∙ f)
 
-    at_room : Headed file → (o : Option Question) → room_question (type_count file) (node_count file) node-room type-room ≡ o
-        → or_else (room_question (type_count file) (node_count file) node-room type-room) (body_question file) ≡ Some q → Placed file q
-    at_room h None o f = at_body h (type_questions 1 given_entries (type_records file)) refl (sym (or_else_none (room_question (type_count file) (node_count file) node-room type-room) _ o) ∙ f)
+    at_room : Headed file → (o : Option Question) → room_question (type_count file) (node_count file) node_room type_room ≡ o
+        → or_else (room_question (type_count file) (node_count file) node_room type_room) (body_question file) ≡ Some q → Placed file q
+    at_room h None o f = at_body h (type_questions 1 given_entries (type_records file)) refl (sym (or_else_none (room_question (type_count file) (node_count file) node_room type_room) _ o) ∙ f)
     at_room h (Some w) o f =
-        room_placed file (leb (node_count file) node-room && leb (6 + type_count file + node_count file) type-room) q
-        (o ∙ sym (or_else_some (room_question (type_count file) (node_count file) node-room type-room) _ w o) ∙ f)
+        room_placed file (leb (node_count file) node_room && leb (6 + type_count file + node_count file) type_room) q
+        (o ∙ sym (or_else_some (room_question (type_count file) (node_count file) node_room type_room) _ w o) ∙ f)
 
     at_head : (o : Option Question) → head_question file ≡ o → Placed file q
     at_head None o =
-        at_room (headed file o) (room_question (type_count file) (node_count file) node-room type-room) refl
+        at_room (headed file o) (room_question (type_count file) (node_count file) node_room type_room) refl
         (sym (or_else_none (head_question file) _ o) ∙ e)
     at_head (Some w) o =
         head_placed file (ltb 0 (length file) && eqb (length file % 6) 0)
@@ -244,19 +244,19 @@ written_back es ns rule types count bytes bytes' (Err x) is many within room cal
 filled_long : {X : Type 0} (xs : List X) (unused : X) (room : ℕ) → length xs ≤ length (filled xs unused room)
 filled_long xs unused room = simp length-append (omega arith)
 
-pub writes_back_lem : (file : List ℕ) (node-room type-room : ℕ) (r : Result Loaded Refusal) (nodes' : List Node) (types' : List Entry)
-    → LoadedRule file node-room type-room r nodes' types' → WritesBack file r nodes' types'
-writes_back_lem file node-room type-room (Err x) nodes' types' loaded = tt
-writes_back_lem file node-room type-room (Ok l) nodes' types' loaded = λ bytes bytes' r room call.
+pub writes_back_lem : (file : List ℕ) (node_room type_room : ℕ) (r : Result Loaded Refusal) (nodes' : List Node) (types' : List Entry)
+    → LoadedRule file node_room type_room r nodes' types' → WritesBack file r nodes' types'
+writes_back_lem file node_room type_room (Err x) nodes' types' loaded = tt
+writes_back_lem file node_room type_room (Ok l) nodes' types' loaded = λ bytes bytes' r room call.
     let es = loaded.0 in
     let ns = loaded.1 in
     let rule = loaded.2 in
     let holds = loaded.5 in
     let n : l.nodes ≡ length ns = ap (λ x. x.nodes) holds.counts in
     let c : l.count ≡ length es = ap (λ x. x.count) holds.counts in
-    let nodes_is : take l.nodes nodes' ≡ ns = ap (take l.nodes) holds.nodes_after ∙ taken ns blank node-room l.nodes n in
-    let types_is : take l.count types' ≡ es = ap (take l.count) holds.types_after ∙ taken es empty type-room l.count c in
-    let within : l.count ≤ length types' = rw (c, holds.types_after) (filled_long es empty type-room) in
+    let nodes_is : take l.nodes nodes' ≡ ns = ap (take l.nodes) holds.nodes_after ∙ taken ns blank node_room l.nodes n in
+    let types_is : take l.count types' ≡ es = ap (take l.count) holds.types_after ∙ taken es empty type_room l.count c in
+    let within : l.count ≤ length types' = rw (c, holds.types_after) (filled_long es empty type_room) in
     let back = written_back es ns rule types' l.count bytes bytes' r types_is c within (rw loaded.3 at room)
     (subst (λ x. WriteCall x types' l.count bytes r bytes') nodes_is call) in (
       back.0 ∙ ap (λ f. Ok (length f)) (sym loaded.3),
@@ -281,7 +281,7 @@ loads_back_lem nodes types count bytes (Ok n) bytes' call = λ nodes₁ nodes₂
     let file : take n bytes' ≡ file_of es nodes = ap (take n) call.2 ∙ take_at (file_of es nodes) _ n long in
     let load' = subst (λ f. LoadCall f nodes₁ types₁ r nodes₂ types₂) file load in
     let ok : r ≡ Ok (counted (file_of es nodes)) =
-    load'.answer ∙ ap (answer_of_lem (counted (file_of es nodes))) (rule_passes es nodes rule _ _ room) in
+    load'.answer ∙ ap (answer_of (counted (file_of es nodes))) (rule_passes es nodes rule _ _ room) in
     loaded_back es nodes rule nodes₁ types₁ r nodes₂ types₂ ok load'
   where
     loaded_back : (es : List Entry) (ns : List Node) (rule : Rule es ns) (nodes₁ : List Node) (types₁ : List Entry) (r : Result Loaded Refusal)

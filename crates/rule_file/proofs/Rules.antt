@@ -230,12 +230,12 @@ module _ (es : List Entry) (ns : List Node) (rule : Rule es ns) where
   pub nodes_back : nodes_in file ≡ ns
   nodes_back = ap (map node_of) node_records_are ∙ nodes_pass.1
 
-  pub rule_passes : (node-room type-room : ℕ) → Roomy es ns node-room type-room → load_question file node-room type-room ≡ None
-  rule_passes node-room type-room room =
+  pub rule_passes : (node_room type_room : ℕ) → Roomy es ns node_room type_room → load_question file node_room type_room ≡ None
+  rule_passes node_room type_room room =
       or_else_both (head_question file) _ (head_none file rule_headed)
-      (or_else_both (room_question (type_count file) (node_count file) node-room type-room) _
-      (room_none _ _ (and_from _ _ (le-leb (node_count file) node-room (omega (arith, nodes_counted, room.0)))
-      (le-leb (6 + type_count file + node_count file) type-room (omega (arith, types_counted, nodes_counted, rule.given, room.1)))))
+      (or_else_both (room_question (type_count file) (node_count file) node_room type_room) _
+      (room_none _ _ (and_from _ _ (le-leb (node_count file) node_room (omega (arith, nodes_counted, room.0)))
+      (le-leb (6 + type_count file + node_count file) type_room (omega (arith, types_counted, nodes_counted, rule.given, room.1)))))
       (or_else_both (type_questions 1 given_entries (type_records file)) _
       (ap (type_questions 1 given_entries) type_records_are ∙ types_pass.0)
       (ap (node_questions (1 + type_count file) (6 + type_count file) 1) node_records_are ∙ nodes_pass.0)))
@@ -250,23 +250,23 @@ front_numbers file =
     let d = get_or-take 6 file 5 0 (omega arith) in
     (omega arith, omega arith)
 
-room_parts : (types nodes node-room type-room : ℕ) → room_question types nodes node-room type-room ≡ None
-    → (nodes ≤ node-room) × (6 + types + nodes ≤ type-room)
-room_parts types nodes node-room type-room e =
-    let p = and_parts (leb nodes node-room) (leb (6 + types + nodes) type-room) (yes_room (leb nodes node-room && leb (6 + types + nodes) type-room) e) in
+room_parts : (types nodes node_room type_room : ℕ) → room_question types nodes node_room type_room ≡ None
+    → (nodes ≤ node_room) × (6 + types + nodes ≤ type_room)
+room_parts types nodes node_room type_room e =
+    let p = and_parts (leb nodes node_room) (leb (6 + types + nodes) type_room) (yes_room (leb nodes node_room && leb (6 + types + nodes) type_room) e) in
     (leb-true _ _ p.0, leb-true _ _ p.1)
   where
     yes_room : (b : Bool) → cond b None (Some TableRoom) ≡ None → b ≡ true
     yes_room true e = refl
     yes_room false e = no_question e
 
-module _ (file : List ℕ) (bytes : Bytes file) (node-room type-room : ℕ) (e : load_question file node-room type-room ≡ None) where
-  answers : (head_question file ≡ None) × ((room_question (type_count file) (node_count file) node-room type-room ≡ None)
+module _ (file : List ℕ) (bytes : Bytes file) (node_room type_room : ℕ) (e : load_question file node_room type_room ≡ None) where
+  answers : (head_question file ≡ None) × ((room_question (type_count file) (node_count file) node_room type_room ≡ None)
       × ((type_questions 1 given_entries (type_records file) ≡ None)
       × (node_questions (1 + type_count file) (6 + type_count file) 1 (node_records file) ≡ None)))
   answers =
       let a = or_else_parts (head_question file) _ e in
-      let b = or_else_parts (room_question (type_count file) (node_count file) node-room type-room) _ a.1 in
+      let b = or_else_parts (room_question (type_count file) (node_count file) node_room type_room) _ a.1 in
       let c = or_else_parts (type_questions 1 given_entries (type_records file)) _ b.1 in
       (a.0, (b.0, c))
 
@@ -305,9 +305,9 @@ module _ (file : List ℕ) (bytes : Bytes file) (node-room type-room : ℕ) (e :
     short = rw nodes_many passed_head.few_nodes;
   }
 
-  pub passed_room : Roomy (entries_in file) (nodes_in file) node-room type-room
+  pub passed_room : Roomy (entries_in file) (nodes_in file) node_room type_room
   passed_room =
-      let r = room_parts _ _ node-room type-room answers.1.0 in
+      let r = room_parts _ _ node_room type_room answers.1.0 in
       (rw nodes_many r.0, rw (entries_many, nodes_many) r.1)
 
   -- its head, its entries and its nodes are what the file was made of

@@ -1,6 +1,6 @@
 -- What load's questions mean for rules, and the round trips between files and tables.
 --   Roomy         the tables have room for a rule
---   LoadsRules    a file is loaded exactly where it is the file of a rule for which there is room, and then the tables hold that rule
+--   LoadedRule    a file is loaded exactly where it is the file of a rule for which there is room, and then the tables hold that rule
 --   TypePlace, NodePlace   where a type record or a node record is at fault: up to there the entries are laid down, or some
 --                 term begins so, and with that record they are not, or none does
 --   Placed        the place of each refusal
@@ -25,21 +25,21 @@ use Rattle.rule_file.specs.Writing.{WriteCall}
 
 -- as many nodes, and as many entries with one more for each node
 abbrev pub Roomy : List Entry → List Node → ℕ → ℕ → Type 0
-Roomy es ns node-room type-room = (length ns ≤ node-room) × (length es + length ns ≤ type-room)
+Roomy es ns node_room type_room = (length ns ≤ node_room) × (length es + length ns ≤ type_room)
 
 -- the tables hold the rule, and then blanks
-pub record Holds (es : List Entry) (ns : List Node) (loaded : Loaded) (node-room type-room : ℕ)
+pub record Holds (es : List Entry) (ns : List Node) (loaded : Loaded) (node_room type_room : ℕ)
     (nodes' : List Node) (types' : List Entry) : Type 0 where
   pub counts : loaded ≡ record { nodes = length ns; count = length es }
-  pub nodes_after : nodes' ≡ filled ns blank node-room
-  pub types_after : types' ≡ filled es empty type-room
+  pub nodes_after : nodes' ≡ filled ns blank node_room
+  pub types_after : types' ≡ filled es empty type_room
 
 abbrev pub LoadedRule : List ℕ → ℕ → ℕ → Result Loaded Refusal → List Node → List Entry → Type 0
-LoadedRule file node-room type-room (Ok loaded) nodes' types' =
-    (es : List Entry) × (ns : List Node) × Rule es ns × (file ≡ file_of es ns) × Roomy es ns node-room type-room
-    × Holds es ns loaded node-room type-room nodes' types'
-LoadedRule file node-room type-room (Err refusal) nodes' types' =
-    (es : List Entry) (ns : List Node) → Rule es ns → file ≡ file_of es ns → Roomy es ns node-room type-room → ⊥
+LoadedRule file node_room type_room (Ok loaded) nodes' types' =
+    (es : List Entry) × (ns : List Node) × Rule es ns × (file ≡ file_of es ns) × Roomy es ns node_room type_room
+    × Holds es ns loaded node_room type_room nodes' types'
+LoadedRule file node_room type_room (Err refusal) nodes' types' =
+    (es : List Entry) (ns : List Node) → Rule es ns → file ≡ file_of es ns → Roomy es ns node_room type_room → ⊥
 
 -- type record i is entry 6 + i, at the place 1 + i
 abbrev pub TypePlace : List ℕ → ℕ → Type 0

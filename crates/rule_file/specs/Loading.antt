@@ -15,7 +15,7 @@
 --   load_answer      what load answers
 --   entries_in, nodes_in   what the two sections say
 --   LoadCall         what load answers and leaves in its two tables
--- What they mean for rules is said in RoundTrips. Assumes nothing.
+-- What they mean for rules is said in Accepted. Assumes nothing.
 use Rattle.std.specs.Prelude.{◌≡◌, ℕ, ◌+◌, ◌-◌, ◌*◌, ◌/◌, ◌%◌, ◌≤◌, Bool, cond, ◌&&◌, List, [], ◌∷◌, ◌++◌, map, length, take, drop, replicate, Some, None, Ok, Err, Option, Result, ◌==◌, nat_le, nat_lt}
 use Rattle.std.specs.Simd.{first_chunks}
 use Rattle.calculus.specs.declared.entry.Entry.{Entry}
@@ -74,8 +74,8 @@ pub record HeadOf (file : List ℕ) (types nodes : ℕ) : Type 0 where
 
 -- the type table has room for as many entries more as there are nodes
 abbrev pub room_question : ℕ → ℕ → ℕ → ℕ → Option Question
-room_question types nodes node-room type-room =
-    cond (nat_le nodes node-room && nat_le (6 + types + nodes) type-room) None (Some TableRoom)
+room_question types nodes node_room type_room =
+    cond (nat_le nodes node_room && nat_le (6 + types + nodes) type_room) None (Some TableRoom)
 
 abbrev pub type_question : ℕ → List Entry → List ℕ → Option Question
 type_question place earlier six =
@@ -109,9 +109,9 @@ body_question file =
     (node_questions (1 + type_count file) (6 + type_count file) 1 (node_records file))
 
 abbrev pub load_question : List ℕ → ℕ → ℕ → Option Question
-load_question file node-room type-room =
+load_question file node_room type_room =
     or_else (head_question file)
-    (or_else (room_question (type_count file) (node_count file) node-room type-room) (body_question file))
+    (or_else (room_question (type_count file) (node_count file) node_room type_room) (body_question file))
 
 abbrev pub entries_in : List ℕ → List Entry
 entries_in file = given_entries ++ map entry_of (type_records file)
@@ -122,13 +122,13 @@ nodes_in file = map node_of (node_records file)
 abbrev pub in_file : Question → Refusal
 in_file q = record { layer = File; question = q }
 
-abbrev pub answer_of_lem : Loaded → Option Question → Result Loaded Refusal
-answer_of_lem loaded None = Ok loaded
-answer_of_lem loaded (Some q) = Err (in_file q)
+abbrev pub answer_of : Loaded → Option Question → Result Loaded Refusal
+answer_of loaded None = Ok loaded
+answer_of loaded (Some q) = Err (in_file q)
 
 abbrev pub load_answer : List ℕ → ℕ → ℕ → Result Loaded Refusal
-load_answer file node-room type-room =
-    answer_of_lem (record { nodes = node_count file; count = 6 + type_count file }) (load_question file node-room type-room)
+load_answer file node_room type_room =
+    answer_of (record { nodes = node_count file; count = 6 + type_count file }) (load_question file node_room type_room)
 
 -- a table that begins with these, and is blank past them
 abbrev pub filled : {A : Type 0} → List A → A → ℕ → List A

@@ -3,7 +3,7 @@
 --   sort_of_mark    what a record is by its mark, and sort_by_mark by its six bytes
 --   sort_of, bytes_of, section_sort   the same of the code's records
 --   is_head, is_type, is_node         which of them it is
---   first_number_lem, second_number_lem       the two numbers
+--   first_number_lem, second_number_lem   the two numbers
 --   form_in, kind_in                  the form or kind of the mark
 --   entry_of, node_of                 the entry or node that the record says
 -- Assumes nothing.
@@ -16,7 +16,7 @@ use Rattle.calculus.specs.declared.node.Node.{Node}
 use Rattle.calculus.specs.Kinds.{is_mark, kind_of_mark, node}
 use Rattle.calculus.specs.Forms.{form_of_mark, joins, entry}
 use Rattle.rule_file.specs.declared.record.Record.{Record}
-use Rattle.rule_file.specs.declared.record.Record.TheVariants as record-case
+use Rattle.rule_file.specs.declared.record.Record.TheVariants as record_case
 use Rattle.rule_file.specs.declared.record.Section.{Section}
 use Rattle.rule_file.specs.declared.record.Section.TheVariants as section
 
@@ -73,16 +73,16 @@ is_head node_record = false
 is_head unreadable = false
 
 abbrev pub sort_of : Record → Sort
-sort_of (record-case.Head six) = head
-sort_of (record-case.«Type» six) = type
-sort_of (record-case.Node six) = node_record
-sort_of (record-case.Unreadable six) = unreadable
+sort_of (record_case.Head six) = head
+sort_of (record_case.«Type» six) = type
+sort_of (record_case.Node six) = node_record
+sort_of (record_case.Unreadable six) = unreadable
 
 abbrev pub bytes_of : Record → List ℕ
-bytes_of (record-case.Head six) = six.now
-bytes_of (record-case.«Type» six) = six.now
-bytes_of (record-case.Node six) = six.now
-bytes_of (record-case.Unreadable six) = six.now
+bytes_of (record_case.Head six) = six.now
+bytes_of (record_case.«Type» six) = six.now
+bytes_of (record_case.Node six) = six.now
+bytes_of (record_case.Unreadable six) = six.now
 
 abbrev pub section_sort : Section → Sort
 section_sort section.Head = head
