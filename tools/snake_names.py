@@ -17,11 +17,14 @@ WORD = re.compile(r'[^\s(){}.;,@"«»`\[\]|]+')
 DECLARED = re.compile(r"(?m)^ *(?:(?:pub|abbrev|unfoldable|private|field|let) +)*([^\s(){}.;,@\"«»:]+)((?: +[^\s(){}.;,@\"«»:]+)*)(?: \{[^{}\n]*\})* :(?= |$)")
 # Definitions that would have the name of a function, or of one of its clauses, beside which they stand.
 BESIDE_A_FUNCTION = set(
-    "answer-number answer-of answer-rule first-number head-fits layer-number line-for loads-back put-frame put-words role-of"
+    "answer-number answer-rule first-number head-fits layer-number line-for loads-back put-frame put-words role-of"
     " rule-for second-number writes-back".split()
 )
 MADE = re.compile(r"(?<![\w-])(?:goal|need|c|l|initial|fn)\.([^\s(){}.;,@\"«»]+)")
 OWN = re.compile(r"/proofs/(?:.*/)?(?:Answers|Invariants|Choices|Proof)\.antt$")
+
+# Parameters and aliases, which no line declares.
+OTHERS = "node-room type-room record-case".split()
 
 
 def files(root, ends):
@@ -81,7 +84,7 @@ def in_rust(text, table):
 def main(argv):
     root = argv[-1]
     names = declared(root)
-    table = {n: turned(n) for n in names}
+    table = {n: turned(n) for n in [*names, *OTHERS]}
     if "--list" in argv:
         words = {}
         for path in files(os.path.join(root, "crates"), (".antt", ".rt")):
