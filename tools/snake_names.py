@@ -3,10 +3,11 @@
 
 usage: snake_names.py [--list] ROOT     --list only prints the names, and where a new spelling meets another name
 
-A name turns if a file of specs/ or proofs/ below ROOT/crates declares it and it has a dash, and three parameters and aliases that no
-line declares turn too. The definitions of a list below, each beside a function or a clause of that name, get `_lem`. Names that a file of answers declares at one of Rattle's own, and names of libraries,
-stay. In .rt files clauses, ghost items and comments turn, and strings stay; in must-fail edits and in docs/ every whole word
-turns. It is to be run once, right after the kit's own script.
+A name turns if a file of specs/ or proofs/ below ROOT/crates declares it and it has a dash; three parameters and aliases
+that no line declares turn too. The definitions of a list below, each beside a function or a clause of that name, get
+`_lem`. Names that a file of answers declares at one of Rattle's own, and names of libraries, stay. In .rt files clauses,
+ghost items and comments turn, and strings stay; in must-fail edits and in docs/ every whole word turns. It is to be run
+once, right after the kit's own script.
 """
 
 import os
