@@ -1,10 +1,10 @@
 -- The meaning of a listing without versions is lawful.
-use Rattle.std.proofs.Common.{◌≡◌, ℕ, zero, suc, ◌<◌, ◌≤◌, Bool, true, false, cond, leb, ◌⊎◌, ◌↔◌, Some, None, sym, refl, ap, subst, inl, inr, ⊎_elim, arith, lit<, lit≤, le-ltb, leb-false}
+use Rattle.std.proofs.Common.{◌≡◌, ℕ, zero, suc, ◌<◌, ◌≤◌, Bool, true, false, cond, leb, ◌⊎◌, ◌↔◌, Some, None, refl, ap, subst, inl, inr, ⊎_elim, arith, lit<, lit≤, le-ltb, leb-false}
 use borrow.Author.Tests.{lt-leb}
 use Rattle.calculus.specs.declared.answer.Answer.{Answer}
 use Rattle.calculus.specs.Meanings.{Lawful, largest_asked, digit, digit_shape, question_shape, answer_shape, Bounded}
 use Rattle.calculus.specs.Examples.{empty_answers, empty_listing}
-use Rattle.calculus.proofs.Options.{none_some, some_injective, cond_some}
+use Rattle.calculus.proofs.Options.{some_injective, cond_some}
 
 digits_low : (k : ℕ) → k < 8 → digit 0x4231 k ≤ 4
 digits_low zero h = lit≤ tt
@@ -22,10 +22,10 @@ pub question_past : (p q : ℕ) → 8 ≤ q → question_shape p q ≡ None
 question_past p q h = ap (λ (b : Bool). cond b (digit_shape (digit p q)) None) (le-ltb q 8 h)
 
 unanswered : (q : ℕ) → (empty_answers q ≡ None) ↔ (question_shape 0x4231 q ≡ None)
-unanswered zero = (λ p. none_some (sym p), λ p. none_some (sym p))
-unanswered (suc zero) = (λ p. none_some (sym p), λ p. none_some (sym p))
-unanswered (suc (suc zero)) = (λ p. none_some (sym p), λ p. none_some (sym p))
-unanswered (suc (suc (suc zero))) = (λ p. none_some (sym p), λ p. none_some (sym p))
+unanswered zero = (λ p. cc, λ p. cc)
+unanswered (suc zero) = (λ p. cc, λ p. cc)
+unanswered (suc (suc zero)) = (λ p. cc, λ p. cc)
+unanswered (suc (suc (suc zero))) = (λ p. cc, λ p. cc)
 unanswered (suc (suc (suc (suc zero)))) = (λ p. refl, λ p. refl)
 unanswered (suc (suc (suc (suc (suc zero))))) = (λ p. refl, λ p. refl)
 unanswered (suc (suc (suc (suc (suc (suc zero)))))) = (λ p. refl, λ p. refl)
@@ -54,14 +54,14 @@ answers_shaped zero r p = ap (λ x. Some (answer_shape x)) (some_injective p)
 answers_shaped (suc zero) r p = ap (λ x. Some (answer_shape x)) (some_injective p)
 answers_shaped (suc (suc zero)) r p = ap (λ x. Some (answer_shape x)) (some_injective p)
 answers_shaped (suc (suc (suc zero))) r p = ap (λ x. Some (answer_shape x)) (some_injective p)
-answers_shaped (suc (suc (suc (suc q)))) r p = none_some p
+answers_shaped (suc (suc (suc (suc q)))) r p = cc
 
 answers_bounded : (q : ℕ) (r : Answer) → empty_answers q ≡ Some r → Bounded r
 answers_bounded zero r p = subst Bounded (some_injective p) (lit≤ tt)
 answers_bounded (suc zero) r p = subst Bounded (some_injective p) tt
 answers_bounded (suc (suc zero)) r p = subst Bounded (some_injective p) tt
 answers_bounded (suc (suc (suc zero))) r p = subst Bounded (some_injective p) (lit≤ tt, lit≤ tt)
-answers_bounded (suc (suc (suc (suc q)))) r p = none_some p
+answers_bounded (suc (suc (suc (suc q)))) r p = cc
 
 pub empty_lawful : Lawful empty_listing
 empty_lawful = record {

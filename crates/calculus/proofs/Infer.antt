@@ -4,31 +4,31 @@ use Rattle.calculus.specs.Syntax.{Ty, Ty-discrete, nat, unit, void, fun, prod, s
 use Rattle.calculus.specs.Meanings.{question_shape}
 use Rattle.calculus.specs.Typing.{shape_type, Typed, typing_var, typing_z, typing_s, typing_rec, typing_abs, typing_fapp, typing_null, typing_pair, typing_fst, typing_snd, typing_abort, typing_inl, typing_inr, typing_case, typing_query}
 use Rattle.calculus.specs.Infer.{value?, and_then, when, as_fun, as_prod, as_sum, rec_type, fapp_type, infer}
-use Rattle.calculus.proofs.Options.{none_some, some_injective, mapped_some, and_then_some, two_some, when_some, when_holds, cond_some}
+use Rattle.calculus.proofs.Options.{some_injective, mapped_some, and_then_some, two_some, when_some, when_holds, cond_some}
 use Rattle.calculus.proofs.Values.{value_true, true_value}
 
 is_fun : (t : Ty) (x : Ty × Ty) → as_fun t ≡ Some x → t ≡ fun x.0 x.1
-is_fun nat x p = none_some p
-is_fun unit x p = none_some p
-is_fun void x p = none_some p
+is_fun nat x p = cc
+is_fun unit x p = cc
+is_fun void x p = cc
 is_fun (fun α β) x p = ap (λ y. fun y.0 y.1) (some_injective p)
-is_fun (prod α β) x p = none_some p
-is_fun (sum α β) x p = none_some p
+is_fun (prod α β) x p = cc
+is_fun (sum α β) x p = cc
 
 is_prod : (t : Ty) (x : Ty × Ty) → as_prod t ≡ Some x → t ≡ prod x.0 x.1
-is_prod nat x p = none_some p
-is_prod unit x p = none_some p
-is_prod void x p = none_some p
-is_prod (fun α β) x p = none_some p
+is_prod nat x p = cc
+is_prod unit x p = cc
+is_prod void x p = cc
+is_prod (fun α β) x p = cc
 is_prod (prod α β) x p = ap (λ y. prod y.0 y.1) (some_injective p)
-is_prod (sum α β) x p = none_some p
+is_prod (sum α β) x p = cc
 
 is_sum : (t : Ty) (x : Ty × Ty) → as_sum t ≡ Some x → t ≡ sum x.0 x.1
-is_sum nat x p = none_some p
-is_sum unit x p = none_some p
-is_sum void x p = none_some p
-is_sum (fun α β) x p = none_some p
-is_sum (prod α β) x p = none_some p
+is_sum nat x p = cc
+is_sum unit x p = cc
+is_sum void x p = cc
+is_sum (fun α β) x p = cc
+is_sum (prod α β) x p = cc
 is_sum (sum α β) x p = ap (λ y. sum y.0 y.1) (some_injective p)
 
 module _ (ρ : ℕ → Ty) (profile : ℕ) where

@@ -6,7 +6,7 @@ use Rattle.calculus.specs.Meanings.{Meaning, reply}
 use Rattle.calculus.specs.Steps.{Step, eval_s, eval_fapp_left, eval_fapp_right, eval_beta, eval_rec_scrut, eval_rec_z, eval_rec_s, eval_pair_left, eval_pair_right, eval_fst, eval_snd, eval_fst_val, eval_snd_val, eval_abort, eval_inl, eval_inr, eval_case, eval_casel, eval_caser, eval_query, eval_answer}
 use Rattle.calculus.specs.Infer.{value?, and_then}
 use Rattle.calculus.specs.Next.{number?, beta, recur, parts, branch, ask, next}
-use Rattle.calculus.proofs.Options.{none_some, some_injective, mapped_some, and_then_some}
+use Rattle.calculus.proofs.Options.{some_injective, mapped_some, and_then_some}
 use Rattle.calculus.proofs.Values.{value_true, true_value, numeral_value, number_numeral, numeral_number}
 use Rattle.calculus.proofs.OneNext.{value_rests}
 
@@ -57,39 +57,39 @@ module _ (m : Meaning) where
   either e t o w e' false q f g p = g p
 
   beta_step : (f a : Term) → Value f → Value a → (e' : Term) → beta f a ≡ Some e' → Step m (AP f a) e'
-  beta_step f a val_z w e' p = none_some p
-  beta_step f a (val_s v) w e' p = none_some p
+  beta_step f a val_z w e' p = cc
+  beta_step f a (val_s v) w e' p = cc
   beta_step f a val_abs w e' p = at (some_injective p) (eval_beta w)
-  beta_step f a val_null w e' p = none_some p
-  beta_step f a (val_prod v x) w e' p = none_some p
-  beta_step f a (val_inl v) w e' p = none_some p
-  beta_step f a (val_inr v) w e' p = none_some p
+  beta_step f a val_null w e' p = cc
+  beta_step f a (val_prod v x) w e' p = cc
+  beta_step f a (val_inl v) w e' p = cc
+  beta_step f a (val_inr v) w e' p = cc
 
   recur_step : (e a b : Term) → Value e → (e' : Term) → recur e a b ≡ Some e' → Step m (RE e a b) e'
   recur_step e a b val_z e' p = at (some_injective p) eval_rec_z
   recur_step e a b (val_s v) e' p = at (some_injective p) (eval_rec_s (val_s v))
-  recur_step e a b val_abs e' p = none_some p
-  recur_step e a b val_null e' p = none_some p
-  recur_step e a b (val_prod v x) e' p = none_some p
-  recur_step e a b (val_inl v) e' p = none_some p
-  recur_step e a b (val_inr v) e' p = none_some p
+  recur_step e a b val_abs e' p = cc
+  recur_step e a b val_null e' p = cc
+  recur_step e a b (val_prod v x) e' p = cc
+  recur_step e a b (val_inl v) e' p = cc
+  recur_step e a b (val_inr v) e' p = cc
 
   parts_step : (k : Term → Term → Term) (F : Term → Term) → ((a b : Term) → Value a → Value b → Step m (F (PA a b)) (k a b))
       → (e : Term) → Value e → (e' : Term) → parts k e ≡ Some e' → Step m (F e) e'
-  parts_step k F f e val_z e' p = none_some p
-  parts_step k F f e (val_s v) e' p = none_some p
-  parts_step k F f e val_abs e' p = none_some p
-  parts_step k F f e val_null e' p = none_some p
+  parts_step k F f e val_z e' p = cc
+  parts_step k F f e (val_s v) e' p = cc
+  parts_step k F f e val_abs e' p = cc
+  parts_step k F f e val_null e' p = cc
   parts_step k F f e (val_prod {a = a} {b = b} v w) e' p = at (some_injective p) (f a b v w)
-  parts_step k F f e (val_inl v) e' p = none_some p
-  parts_step k F f e (val_inr v) e' p = none_some p
+  parts_step k F f e (val_inl v) e' p = cc
+  parts_step k F f e (val_inr v) e' p = cc
 
   branch_step : (e a b : Term) → Value e → (e' : Term) → branch e a b ≡ Some e' → Step m (CA e a b) e'
-  branch_step e a b val_z e' p = none_some p
-  branch_step e a b (val_s v) e' p = none_some p
-  branch_step e a b val_abs e' p = none_some p
-  branch_step e a b val_null e' p = none_some p
-  branch_step e a b (val_prod v x) e' p = none_some p
+  branch_step e a b val_z e' p = cc
+  branch_step e a b (val_s v) e' p = cc
+  branch_step e a b val_abs e' p = cc
+  branch_step e a b val_null e' p = cc
+  branch_step e a b (val_prod v x) e' p = cc
   branch_step e a b (val_inl v) e' p = at (some_injective p) (eval_casel v)
   branch_step e a b (val_inr v) e' p = at (some_injective p) (eval_caser v)
 
@@ -100,21 +100,21 @@ module _ (m : Meaning) where
       at y.2 (eval_answer (numeral_number e x.0 x.1) y.1)
 
   pub next_step : (e e' : Term) → next m e ≡ Some e' → Step m e e'
-  next_step (VA i) e' p = none_some p
-  next_step ZE e' p = none_some p
+  next_step (VA i) e' p = cc
+  next_step ZE e' p = cc
   next_step (SU e) e' p = inside e SU (SU e) (λ x s. eval_s s) (next_step e) e' p
   next_step (RE e a b) e' p =
       either e (RE e a b) (recur e a b) (option_map (λ x. RE x a b) (next m e)) e' (value? e) refl
       (λ v q. recur_step e a b v e' q)
       (λ q. inside e (λ x. RE x a b) (RE e a b) (λ x s. eval_rec_scrut s) (next_step e) e' q) p
-  next_step (LA t b) e' p = none_some p
+  next_step (LA t b) e' p = cc
   next_step (AP f a) e' p =
       either f (AP f a) (cond (value? a) (beta f a) (option_map (AP f) (next m a))) (option_map (λ x. AP x a) (next m f)) e' (value? f) refl
       (λ v q. either a (AP f a) (beta f a) (option_map (AP f) (next m a)) e' (value? a) refl
       (λ w r. beta_step f a v w e' r)
       (λ r. inside a (AP f) (AP f a) (λ x s. eval_fapp_right v s) (next_step a) e' r) q)
       (λ q. inside f (λ x. AP x a) (AP f a) (λ x s. eval_fapp_left s) (next_step f) e' q) p
-  next_step TR e' p = none_some p
+  next_step TR e' p = cc
   next_step (PA a b) e' p =
       either a (PA a b) (option_map (PA a) (next m b)) (option_map (λ x. PA x b) (next m a)) e' (value? a) refl
       (λ v q. inside b (PA a) (PA a b) (λ x s. eval_pair_right v s) (next_step b) e' q)

@@ -18,7 +18,7 @@ sum_left p = cc
 
 module _ (ρ : ℕ → Ty) (profile : ℕ) where
   pub one_type : {Γ : List Ty} {e : Term} {τ σ : Ty} → Typed ρ profile Γ e τ → Typed ρ profile Γ e σ → τ ≡ σ
-  one_type (typing_var p) (typing_var q) = same_value p q
+  one_type (typing_var p) (typing_var q) = cc
   one_type typing_z typing_z = refl
   one_type (typing_s d) (typing_s d') = refl
   one_type (typing_rec d a b v) (typing_rec d' a' b' v') = one_type a a'

@@ -7,7 +7,6 @@ use Rattle.calculus.specs.Meanings.{Meaning, Lawful, LawfulUnder, largest_asked,
 use Rattle.calculus.specs.Typing.{Typed, typing_var, typing_z, typing_s, typing_rec, typing_abs, typing_fapp, typing_null, typing_pair, typing_fst, typing_snd, typing_abort, typing_inl, typing_inr, typing_case, typing_query}
 use Rattle.calculus.specs.Steps.{eval_s, eval_fapp_left, eval_fapp_right, eval_beta, eval_rec_scrut, eval_rec_z, eval_rec_s, eval_pair_left, eval_pair_right, eval_fst, eval_snd, eval_fst_val, eval_snd_val, eval_abort, eval_inl, eval_inr, eval_case, eval_casel, eval_caser, eval_query, eval_answer}
 use Rattle.calculus.specs.Safety.{HasNext}
-use Rattle.calculus.proofs.Options.{none_some}
 
 pub size_numeral : (n : ℕ) → size (numeral n) ≡ suc n
 size_numeral zero = refl
@@ -18,7 +17,7 @@ answered_by : (m : Meaning) → Lawful m → (q n : ℕ) (s : Shape) → questio
     → (o : Option Answer) → m.answer q n ≡ o → (r : Answer) × (m.answer q n ≡ Some r)
 answered_by m l q n s p h (Some r) e = (r, e)
 answered_by m l q n s p h None e =
-    ⊎_elim (λ (x : question_shape m.profile q ≡ None). none_some (sym x ∙ p))
+    ⊎_elim (λ (x : question_shape m.profile q ≡ None). cc (sym x ∙ p))
     (λ (x : largest_asked < n). absurd (omega arith)) ((l.missing q n).0 e)
 
 pub answered : (profile : ℕ) (m : Meaning) → LawfulUnder profile m → (q n : ℕ) (s : Shape)
@@ -101,7 +100,7 @@ module _ (ρ : ℕ → Ty) (profile : ℕ) (m : Meaning) (l : LawfulUnder profil
       (reply r.0, eval_answer n.1 r.1)
 
   pub progress : {e : Term} {τ : Ty} → Typed ρ profile [] e τ → size e ≤ 4096 → Value e ⊎ HasNext m e
-  progress (typing_var p) h = none_some p
+  progress (typing_var p) h = cc
   progress typing_z h = inl val_z
   progress (typing_s d) h =
       elim (progress d (omega arith)) [ inl v ↦ inl (val_s v) | inr g ↦ inr (SU g.0, eval_s g.1) ]

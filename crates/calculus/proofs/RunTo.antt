@@ -9,7 +9,6 @@ use Rattle.calculus.specs.Steps.{Step}
 use Rattle.calculus.specs.Infer.{value?}
 use Rattle.calculus.specs.Next.{next}
 use Rattle.calculus.specs.Runs.{Stopped}
-use Rattle.calculus.proofs.Options.{none_some}
 use Rattle.calculus.proofs.Values.{true_value, value_true}
 use Rattle.calculus.proofs.Next.{next_step, step_next}
 use Rattle.calculus.proofs.Walks.{Walk, stands, walk_more, stopped_value, stopped_stuck, stopped_spent, stopped_full}
@@ -41,7 +40,7 @@ module _ (m : Meaning) (fuel room : ℕ) (start : Term) where
       → (o : Option Term) → next m e ≡ o → ((w : Term) → Step m e w → StopsAt (go w)) → StopsAt (halt b o go k e)
   halt_stops {e = e} go x l true p o q f = stopped_value m room x l (true_value e p)
   halt_stops {e = e} go x l false p None q f =
-      stopped_stuck m room x l (λ v. false≢true (sym p ∙ value_true v)) (λ w s. none_some (sym q ∙ step_next m s))
+      stopped_stuck m room x l (λ v. false≢true (sym p ∙ value_true v)) (λ w s. cc (sym q ∙ step_next m s))
   halt_stops {e = e} go x l false p (Some w) q f = f w (next_step m e w q)
 
   room_stops : (k : ℕ) (e w : Term) (rest : Outcome) → Walk m room k start e → k < fuel → Step m e w → (b : Bool) → leb (size w) room ≡ b

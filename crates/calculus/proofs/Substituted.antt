@@ -3,7 +3,7 @@ use Rattle.std.proofs.Common.{◌≡◌, ℕ, zero, suc, List, [], ◌∷◌, �
 use Rattle.std.specs.List.{slice_get}
 use Rattle.calculus.specs.Syntax.{Ty, nat, Term, VA, Value, val_z, val_s, val_abs, val_null, val_prod, val_inl, val_inr, up, put, one}
 use Rattle.calculus.specs.Typing.{Typed, typing_var, typing_z, typing_s, typing_rec, typing_abs, typing_fapp, typing_null, typing_pair, typing_fst, typing_snd, typing_abort, typing_inl, typing_inr, typing_case, typing_query}
-use Rattle.calculus.proofs.Options.{none_some, some_injective}
+use Rattle.calculus.proofs.Options.{some_injective}
 
 pub put_value : {e : Term} (s : ℕ → Option Term) → Value e → Value (put s e)
 put_value s val_z = val_z
@@ -15,7 +15,7 @@ put_value s (val_inl x) = val_inl (put_value s x)
 put_value s (val_inr x) = val_inr (put_value s x)
 
 nth_longer : (Δ Γ : List Ty) (i : ℕ) {τ : Ty} → slice_get Γ i ≡ Some τ → slice_get (Γ ++ Δ) i ≡ Some τ
-nth_longer Δ [] i p = none_some p
+nth_longer Δ [] i p = cc
 nth_longer Δ (α ∷ Γ) zero p = p
 nth_longer Δ (α ∷ Γ) (suc i) p = nth_longer Δ Γ i p
 
@@ -82,7 +82,7 @@ module _ (ρ : ℕ → Ty) (profile : ℕ) where
 
   leads_one : {α : Ty} {v : Term} → Typed ρ profile [] v α → Leads (α ∷ []) [] (one v)
   leads_one {v = v} d zero τ p = given (subst (λ (σ : Ty). Typed ρ profile [] v σ) (some_injective p) d)
-  leads_one d (suc i) τ p = none_some p
+  leads_one d (suc i) τ p = cc
 
   pub one_typed : {α τ : Ty} {v e : Term} → Typed ρ profile [] v α → Typed ρ profile (α ∷ []) e τ → Typed ρ profile [] (put (one v) e) τ
   one_typed {v = v} d b = put_typed [] (one v) b (leads_one d)

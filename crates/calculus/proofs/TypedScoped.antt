@@ -3,10 +3,9 @@ use Rattle.std.proofs.Common.{◌≡◌, ℕ, zero, suc, ◌<◌, List, [], ◌�
 use Rattle.std.specs.List.{slice_get}
 use Rattle.calculus.specs.Syntax.{Ty, Term, Scoped, scoped_var, scoped_z, scoped_s, scoped_rec, scoped_abs, scoped_fapp, scoped_null, scoped_pair, scoped_fst, scoped_snd, scoped_abort, scoped_inl, scoped_inr, scoped_case, scoped_query}
 use Rattle.calculus.specs.Typing.{Typed, typing_var, typing_z, typing_s, typing_rec, typing_abs, typing_fapp, typing_null, typing_pair, typing_fst, typing_snd, typing_abort, typing_inl, typing_inr, typing_case, typing_query}
-use Rattle.calculus.proofs.Options.{none_some}
 
 nth_within : (Γ : List Ty) (i : ℕ) {τ : Ty} → slice_get Γ i ≡ Some τ → i < length Γ
-nth_within [] i p = none_some p
+nth_within [] i p = cc
 nth_within (α ∷ Γ) zero p = suc-le-suc zero-le
 nth_within (α ∷ Γ) (suc i) p = suc-le-suc (nth_within Γ i p)
 

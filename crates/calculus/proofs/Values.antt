@@ -5,7 +5,7 @@ use Rattle.std.specs.Option.{option_map}
 use Rattle.calculus.specs.Syntax.{Term, VA, ZE, SU, RE, LA, AP, TR, PA, FS, SN, AB, IL, IR, CA, QU, numeral, Value, val_z, val_s, val_abs, val_null, val_prod, val_inl, val_inr}
 use Rattle.calculus.specs.Infer.{value?}
 use Rattle.calculus.specs.Next.{number?}
-use Rattle.calculus.proofs.Options.{none_some, some_injective, mapped_some}
+use Rattle.calculus.proofs.Options.{some_injective, mapped_some}
 
 pub value_true : {e : Term} → Value e → value? e ≡ true
 value_true val_z = refl
@@ -55,20 +55,20 @@ number_numeral zero = refl
 number_numeral (suc n) = ap (option_map suc) (number_numeral n)
 
 pub numeral_number : (e : Term) (n : ℕ) → number? e ≡ Some n → e ≡ numeral n
-numeral_number (VA i) n p = none_some p
+numeral_number (VA i) n p = cc
 numeral_number ZE n p = ap numeral (some_injective p)
 numeral_number (SU e) n p =
     let h = mapped_some suc (number? e) p in
     ap SU (numeral_number e h.0 h.1) ∙ ap numeral h.2
-numeral_number (RE e a b) n p = none_some p
-numeral_number (LA t b) n p = none_some p
-numeral_number (AP f a) n p = none_some p
-numeral_number TR n p = none_some p
-numeral_number (PA a b) n p = none_some p
-numeral_number (FS e) n p = none_some p
-numeral_number (SN e) n p = none_some p
-numeral_number (AB t e) n p = none_some p
-numeral_number (IL t e) n p = none_some p
-numeral_number (IR t e) n p = none_some p
-numeral_number (CA e a b) n p = none_some p
-numeral_number (QU q e) n p = none_some p
+numeral_number (RE e a b) n p = cc
+numeral_number (LA t b) n p = cc
+numeral_number (AP f a) n p = cc
+numeral_number TR n p = cc
+numeral_number (PA a b) n p = cc
+numeral_number (FS e) n p = cc
+numeral_number (SN e) n p = cc
+numeral_number (AB t e) n p = cc
+numeral_number (IL t e) n p = cc
+numeral_number (IR t e) n p = cc
+numeral_number (CA e a b) n p = cc
+numeral_number (QU q e) n p = cc

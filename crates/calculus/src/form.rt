@@ -18,7 +18,7 @@ pub enum Form {
 }
 
 impl Form {
-    // The form's number: 0 for a blank, and 1 to 6.
+    // The form's number: 0 for a blank, and 1 to 6. (A From for u8 would say no more, and hide that it is the number.)
     pub fn number(self) -> u8
         ensures { result ≡ form_number self }
     {
@@ -40,7 +40,8 @@ impl Form {
         }
     }
 
-    // The form that joins two types and has this mark, or a blank where there is none.
+    // The form that joins two types and has this mark, or a blank where there is none. (The reading of a record cannot
+    // fail, so it answers a blank; try_from answers an error.)
     pub fn of_mark(a: u8, b: u8) -> Form
         ensures value { result ≡ form_of_mark a b }
         ensures agrees { FormMarksAgree a b result }

@@ -27,7 +27,7 @@ pub enum Kind {
 }
 
 impl Kind {
-    // The kind's number: 0 for a blank, and 1 to 15.
+    // The kind's number: 0 for a blank, and 1 to 15. (A From for u8 would say no more, and hide that it is the number.)
     pub fn number(self) -> u8
         ensures { result ≡ kind_number self }
     {
@@ -58,7 +58,8 @@ impl Kind {
         }
     }
 
-    // The kind with this mark, or a blank where no kind has it.
+    // The kind with this mark, or a blank where no kind has it. (The reading of a record cannot fail, so it answers a blank;
+    // try_from answers an error.)
     pub fn of_mark(a: u8, b: u8) -> Kind
         ensures value { result ≡ kind_of_mark a b }
         ensures agrees { MarksAgree a b result }
