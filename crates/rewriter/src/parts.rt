@@ -12,8 +12,5 @@ pub fn past_term(nodes: &[Node], at: usize) -> usize
     ensures within { (at ≤ result) × (result ≤ length nodes.now) }
     ensures end { (t : Term) (rest : List NodeOf) → drop at nodes.now ≡ onto t rest → result ≡ at + size t }
 {
-    match end_of_term(nodes, at) {
-        Some(end) => end,
-        None => nodes.len(),
-    }
+    end_of_term(nodes, at).unwrap_or(nodes.len())
 }

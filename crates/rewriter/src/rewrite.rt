@@ -39,15 +39,9 @@ fn unroll(
         kind: Kind::Rec,
         number: 0,
     };
-    let Some(head) = write_one(out, 0, apply) else {
-        return None;
-    };
-    let Some(length) = substitute(step, number, depths, &mut out[head..]) else {
-        return None;
-    };
-    let Some(used) = write_one(out, head + length, rec) else {
-        return None;
-    };
+    let head = write_one(out, 0, apply)?;
+    let length = substitute(step, number, depths, &mut out[head..])?;
+    let used = write_one(out, head + length, rec)?;
     write(out, used, parts)
 }
 
@@ -56,10 +50,7 @@ fn put_reply<H: Host>(question: u16, number: u16, out: &mut [Node], host: &mut H
     ensures wrote { (a : AnswerOf) → (H.meaning host.old).answer question number ≡ some a → Wrote out.old 0 (flat (reply a)) out.new result }
     ensures kept { H.meaning host.new ≡ H.meaning host.old }
 {
-    let Some(answer) = host.query(question, number) else {
-        return None;
-    };
-    put_answer(answer, out)
+    put_answer(host.query(question, number)?, out)
 }
 
 // Writes what the redex at a site becomes to the front of `out`.
@@ -131,8 +122,6 @@ pub fn rewrite<H: Host>(
 {
     let Site { at, end, .. } = site;
     write_front(back, &front[0..at]);
-    let Some(length) = replace(front, site, depths, &mut back[at..], host) else {
-        return None;
-    };
+    let length = replace(front, site, depths, &mut back[at..], host)?;
     write(back, at + length, &front[end..])
 }

@@ -54,9 +54,7 @@ fn has_question(profile: u32, question: u16) -> bool
 fn answer_rule(profile: u32, question: u16, nodes: &[Node]) -> Option<Rule>
     ensures value { result ≡ answer_rule_lem profile question (numeral_in nodes.now) }
 {
-    let Some(number) = numeral_of(nodes) else {
-        return None;
-    };
+    let number = numeral_of(nodes)?;
     if number > usize::from(LARGEST_ASKED) || !has_question(profile, question) {
         return None;
     }
