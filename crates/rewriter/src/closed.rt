@@ -15,10 +15,8 @@ const ANY_TYPE: usize = 65536;
 fn fits_under(node: Node, depth: u16) -> bool
     ensures value { result ≡ fits_under depth node }
 {
-    match node.kind {
-        Kind::Variable => node.number < depth && is_in_range(node, ANY_TYPE),
-        _ => is_in_range(node, ANY_TYPE),
-    }
+    let in_scope = node.kind != Kind::Variable || node.number < depth;
+    in_scope && is_in_range(node, ANY_TYPE)
 }
 
 // Where the nodes stop being one closed term: nowhere, or at the first node at fault, or at the end of an unended term.
