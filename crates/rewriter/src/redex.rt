@@ -15,7 +15,6 @@ use calculus::node::Node;
 fn past_eliminator(front: &[Node], at: usize, upto: usize) -> usize
     requires values { at < upto }
     requires inside { upto ≤ length front.now }
-    requires short { length front.now ≤ 65535 }
     ensures end { (e : Term) (rest : List NodeOf) → drop at front.now ≡ onto e rest → upto ≡ at + taken e → result ≡ at + size e }
 {
     let node = front[at];
@@ -28,8 +27,7 @@ fn past_eliminator(front: &[Node], at: usize, upto: usize) -> usize
 // The redex of the term in `front`: where it is and by which rule it is replaced. A term that is no value and has no
 // redex, or one without a rule, is stuck.
 pub fn find_redex(front: &[Node], profile: u32) -> Redex
-    requires written { Written front.now }
-    requires short { length front.now ≤ 65535 }
+    requires { Written front.now }
     ensures found { FoundRedex profile front.now result }
 {
     match focus_of(front) {

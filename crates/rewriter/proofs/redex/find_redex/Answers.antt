@@ -5,23 +5,23 @@ use Rattle.rewriter.proofs.redex.find_redex.Goals as goal
 
 pub offset_bounds-front-at : goal.offset_bounds-front-at
 offset_bounds-front-at c =
-    let b = bounds _ _ _ c.in-Eliminator.ensures.value c.requires.written.0 c.requires.written.1 in search rules
+    let b = bounds _ _ _ c.in-Eliminator.ensures.value c.requires.0 c.requires.1 in search rules
 
 pub slice_bounds-rule_of-count : goal.slice_bounds-rule_of-count
 slice_bounds-rule_of-count c =
-    let b = bounds _ _ _ c.in-Eliminator.ensures.value c.requires.written.0 c.requires.written.1 in omega arith
+    let b = bounds _ _ _ c.in-Eliminator.ensures.value c.requires.0 c.requires.1 in omega arith
 
 pub slice_bounds-rule_of-start : goal.slice_bounds-rule_of-start
 slice_bounds-rule_of-start c =
-    let b = bounds _ _ _ c.in-Eliminator.ensures.value c.requires.written.0 c.requires.written.1 in search rules
+    let b = bounds _ _ _ c.in-Eliminator.ensures.value c.requires.0 c.requires.1 in search rules
 
 pub past_eliminator-requires-clause-values : goal.past_eliminator-requires-clause-values
 past_eliminator-requires-clause-values c =
-    (bounds _ _ _ c.in-Eliminator.ensures.value c.requires.written.0 c.requires.written.1).1
+    (bounds _ _ _ c.in-Eliminator.ensures.value c.requires.0 c.requires.1).1
 
 pub past_eliminator-requires-clause-inside : goal.past_eliminator-requires-clause-inside
 past_eliminator-requires-clause-inside c =
-    (bounds _ _ _ c.in-Eliminator.ensures.value c.requires.written.0 c.requires.written.1).2
+    (bounds _ _ _ c.in-Eliminator.ensures.value c.requires.0 c.requires.1).2
 
 pub returns-in-None : goal.returns-in-None
 returns-in-None c = record {
@@ -41,7 +41,7 @@ returns-in-Some c =
     let v = rw take_rest at c.in-Some.ensures.value in
     record {
       found = (
-        redex_at _ _ _ c.in-Eliminator.ensures.value c.requires.written.0 c.requires.written.1 _ _ _ v c.past_eliminator.ensures.end,
+        redex_at _ _ _ c.in-Eliminator.ensures.value c.requires.0 c.requires.1 _ _ _ v c.past_eliminator.ensures.end,
         λ t is. ready _ _ _ c.in-Eliminator.ensures.value t is _ _ v,
       );
     }
