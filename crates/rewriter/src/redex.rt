@@ -19,13 +19,14 @@ fn past_eliminator(front: &[Node], at: usize, upto: usize) -> usize
 {
     let node = front[at];
     match node.kind {
-        Kind::Rec | Kind::Case => { past_term(front, past_term(front, upto)) }
+        Kind::Rec | Kind::Case => past_term(front, past_term(front, upto)),
         _ => upto,
     }
 }
 
 // The redex of the term in `front`: where it is and by which rule it is replaced. A term that is no value and has no
 // redex, or one without a rule, is stuck.
+#[tactic(auto, using(crate::proofs::Finding::bounds))]
 pub fn find_redex(front: &[Node], profile: u32) -> Redex
     requires { Written front.now }
     ensures found { FoundRedex profile front.now result }

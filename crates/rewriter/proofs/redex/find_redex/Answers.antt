@@ -3,26 +3,6 @@ use Rattle.std.proofs.lemmas.List.{take_rest}
 use Rattle.rewriter.proofs.Finding.{found_value, found_variable, bounds, stuck, ready, redex_at}
 use Rattle.rewriter.proofs.redex.find_redex.Goals as goal
 
-pub offset_bounds-front-at : goal.offset_bounds-front-at
-offset_bounds-front-at c =
-    let b = bounds _ _ _ c.in-Eliminator.ensures.value c.requires.0 c.requires.1 in search rules
-
-pub slice_bounds-rule_of-count : goal.slice_bounds-rule_of-count
-slice_bounds-rule_of-count c =
-    let b = bounds _ _ _ c.in-Eliminator.ensures.value c.requires.0 c.requires.1 in omega arith
-
-pub slice_bounds-rule_of-start : goal.slice_bounds-rule_of-start
-slice_bounds-rule_of-start c =
-    let b = bounds _ _ _ c.in-Eliminator.ensures.value c.requires.0 c.requires.1 in search rules
-
-pub past_eliminator-requires-clause-values : goal.past_eliminator-requires-clause-values
-past_eliminator-requires-clause-values c =
-    (bounds _ _ _ c.in-Eliminator.ensures.value c.requires.0 c.requires.1).1
-
-pub past_eliminator-requires-clause-inside : goal.past_eliminator-requires-clause-inside
-past_eliminator-requires-clause-inside c =
-    (bounds _ _ _ c.in-Eliminator.ensures.value c.requires.0 c.requires.1).2
-
 pub returns-in-None : goal.returns-in-None
 returns-in-None c = record {
   found = λ t is. stuck _ _ _ c.in-Eliminator.ensures.value t is _ (rw take_rest at c.in-None.ensures.value);
