@@ -5,7 +5,8 @@ ghost use Rattle.rewriter.specs.Depths.{child_depths};
 use calculus::kind::Kind;
 use std::marker::Model;
 
-// A stack of at most `N` depths, in fixed memory. It grows down from the end of `words`.
+// A stack of at most `N` depths, in fixed memory. It grows down from the end of `words`. That it has room for the nodes
+// that a function reads is a clause there, `HasRoom`: a fact about two arguments, which the type of neither can hold.
 #[derive(Drop)]
 pub struct Depths<const N: usize> {
     words: [u16; N],

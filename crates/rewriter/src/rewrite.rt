@@ -55,7 +55,8 @@ fn put_reply<H: Host>(question: u16, number: u16, out: &mut [Node], host: &mut H
     put_answer(host.query(question, number)?, out)
 }
 
-// Writes what the redex at a site becomes to the front of `out`.
+// Writes what the redex at a site becomes to the front of `out`. What it is lent stays apart: a struct of the table, the
+// stack and the host would be made for this one call, and taken apart here.
 fn replace<H: Host, const N: usize>(
     front: &[Node],
     site: Site,

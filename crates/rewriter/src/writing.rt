@@ -4,7 +4,8 @@ ghost use Rattle.rewriter.specs.Writes.{Wrote};
 
 use calculus::node::Node;
 
-// Writes `more` to `out` from the place `used` on, and answers where it ends, if it fits.
+// Writes `more` to `out` from the place `used` on, and answers where it ends, if it fits. The place is passed beside the
+// table: where a part of the table was lent to each write instead, goals of its callers stayed open.
 #[inline]
 pub fn write(out: &mut [Node], used: usize, more: &[Node]) -> Option<usize>
     requires { used ≤ length out.old }

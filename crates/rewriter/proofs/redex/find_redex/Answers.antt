@@ -1,6 +1,5 @@
-use Rattle.std.proofs.Common.{arith, rules}
 use Rattle.std.proofs.lemmas.List.{take_rest}
-use Rattle.rewriter.proofs.Finding.{found_value, found_variable, bounds, stuck, ready, redex_at}
+use Rattle.rewriter.proofs.Finding.{found_value, found_variable, stuck, ready, redex_at}
 use Rattle.rewriter.proofs.redex.find_redex.Goals as goal
 
 pub returns-in-None : goal.returns-in-None
