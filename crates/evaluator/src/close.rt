@@ -3,7 +3,7 @@ ghost use Rattle.std.specs.Result.{MatchResult};
 ghost use Rattle.evaluator.specs.OneCall.{CloseRefused, CloseCall};
 ghost use Rattle.evaluator.specs.Evaluating.{Closable};
 
-use crate::held::{DEPTHS, Held, Run};
+use crate::held::{Held, Run, Scratch};
 use crate::outcome::Closing;
 use crate::refused::refused;
 use crate::token::CloseToken;
@@ -23,7 +23,7 @@ fn close_question(run: &Run, front: &[Node]) -> Result<Held, Question>
     if front.len() != held.length {
         return Err(Question::TermHeld);
     }
-    let mut depths = [0; DEPTHS];
+    let mut depths = Scratch::new();
     let count = held.count;
     if let Some(k) = closed_fault(&front[0..count], &mut depths) {
         return Err(Question::ClosedTerm { place: k as u16 });

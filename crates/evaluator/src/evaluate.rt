@@ -1,10 +1,10 @@
 // The steps of a run call: from the term that front holds to the first cause to stop.
-ghost use Rattle.std.specs.Prelude.{◌≡◌, ◌+◌, ◌*◌, ◌≤◌, length, take};
+ghost use Rattle.std.specs.Prelude.{◌≡◌, ◌≤◌, length, take};
 ghost use Rattle.rewriter.specs.ClosedTerms.{OneClosed};
 ghost use Rattle.evaluator.specs.Evaluating.{Halted, Evaluated};
 ghost use Rattle.evaluator.specs.OneCall.{FuelLeft};
 
-use crate::held::Held;
+use crate::held::{Held, Scratch};
 use crate::outcome::{Halt, Ran};
 use crate::tables::{blank_rest, copy_first};
 use calculus::node::Node;
@@ -15,19 +15,21 @@ use rewriter::rewrite::rewrite;
 use rewriter::site::Redex;
 
 // Steps the term in front's first `count` records until it is a value or stuck, the fuel is spent or the next term is longer
-// than the table. Each next term is written to back and copied to front; `depths` is scratch of the substitution.
+// than the table. Each next term is written to back and copied to front; `depths` is scratch.
 fn step_on<H: Host>(
     fuel: u32,
     count: usize,
     profile: u32,
     front: &mut [Node],
     back: &mut [Node],
-    depths: &mut [u16],
+    depths: &mut Scratch,
     host: &mut H,
 ) -> Halt
     requires profile { profile ≡ (H.meaning host.old).profile }
     requires term { OneClosed (take count front.old) }
-    requires tables { (count ≤ length front.old) × ((length front.old ≤ 4096) × ((length back.old ≡ length front.old) × (2 * length front.old + 4 ≤ length depths.old))) }
+    requires within { count ≤ length front.old }
+    requires short { length front.old ≤ 4096 }
+    requires twins { length back.old ≡ length front.old }
     ensures halted { Halted (H.meaning host.old) fuel count front.old front.new result }
     ensures kept { H.meaning host.new ≡ H.meaning host.old }
 {
@@ -58,13 +60,14 @@ pub(crate) fn evaluate<H: Host>(
     held: Held,
     front: &mut [Node],
     back: &mut [Node],
-    depths: &mut [u16],
+    depths: &mut Scratch,
     host: &mut H,
 ) -> Ran
     requires profile { (H.meaning host.old).profile ≡ held.profile }
     requires term { OneClosed (take held.count front.old) }
     requires fuel { FuelLeft fuel held }
-    requires tables { (length front.old ≡ held.length) × ((length back.old ≡ held.length) × (2 * length front.old + 4 ≤ length depths.old)) }
+    requires front { length front.old ≡ held.length }
+    requires back { length back.old ≡ held.length }
     ensures evaluated { Evaluated (H.meaning host.old) fuel held front.old result front.new back.new }
     ensures kept { H.meaning host.new ≡ H.meaning host.old }
 {

@@ -1,14 +1,19 @@
 // What a run keeps beside its two tables: front, which holds the term, and back, into which the next term is written.
 ghost use Rattle.std.specs.Prelude.{◌≡◌, ◌≤◌, Some, None, MatchOption};
 
+use rewriter::depths::Depths;
+
 // The longest tables.
 pub const LONGEST: usize = 4096;
 
 // How many steps a run may make in all.
 pub const MOST_STEPS: u32 = 1_000_000;
 
-// Scratch for the depths of the parts of a term in the longest table: two words for each node, and four.
-pub(crate) const DEPTHS: usize = 8196;
+// How many depths are kept at a time while the longest term is read: two for each node, and one.
+const MOST_DEPTHS: usize = 2 * LONGEST + 1;
+
+// Scratch: the depths of the parts of a term.
+pub(crate) type Scratch = Depths<MOST_DEPTHS>;
 
 #[derive(Clone, Copy)]
 pub(crate) struct Held {

@@ -1,10 +1,10 @@
 // Running: the questions of a call, and then its steps.
-ghost use Rattle.std.specs.Prelude.{◌≡◌, ◌≤◌, length, MatchResult};
+ghost use Rattle.std.specs.Prelude.{◌≡◌, MatchResult};
 ghost use Rattle.evaluator.specs.OneCall.{RunRefused, RunCall};
 ghost use Rattle.evaluator.specs.Evaluating.{Runnable};
 
 use crate::evaluate::evaluate;
-use crate::held::{DEPTHS, Held, MOST_STEPS, Run};
+use crate::held::{Held, MOST_STEPS, Run, Scratch};
 use crate::outcome::Ran;
 use crate::refused::refused;
 use calculus::node::Node;
@@ -18,10 +18,9 @@ fn run_question<H: Host>(
     fuel: u32,
     front: &[Node],
     back: &[Node],
-    depths: &mut [u16],
+    depths: &mut Scratch,
     host: &mut H,
 ) -> Result<Held, Question>
-    requires { 8196 ≤ length depths.old }
     ensures value { MatchResult result (λ h. Runnable (H.meaning host.old) fuel (record { run = run.now; front = front.now; back = back.now }) h) (λ q. RunRefused (H.meaning host.old) fuel (record { run = run.now; front = front.now; back = back.now }) q) }
     ensures kept { H.meaning host.new ≡ H.meaning host.old }
 {
@@ -59,7 +58,7 @@ pub fn run<H: Host>(
     ensures call { RunCall (H.meaning host.old) fuel (record { run = run.old; front = front.old; back = back.old }) result (record { run = run.new; front = front.new; back = back.new }) }
     ensures kept { H.meaning host.new ≡ H.meaning host.old }
 {
-    let mut depths = [0; DEPTHS];
+    let mut depths = Scratch::new();
     let held = match run_question(run, fuel, front, back, &mut depths, host) {
         Ok(held) => held,
         Err(question) => return Err(refused(question)),

@@ -1,8 +1,8 @@
 -- What `fault_under` finds, over trees and step by step.
 --   judged_closed   the fault that is found is the first fault, and none is found in one closed term
---   fault_more, fault_unfit, fault_late, fault_ended, fault_unended   a scan's next node, and its answers
+--   fault_more, fault_unfit, fault_late, fault_over   a scan's next node, and its answers
 use Rattle.std.proofs.Common.{◌≡◌, ℕ, suc, ◌+◌, ◌<◌, ◌≤◌, Bool, true, false, cond, eqb, List, [], ◌∷◌, ◌++◌, length, get_or, take, drop, Some, None, Option, sym, refl, ap, ◌∙◌, inl, inr, add-zero, arith}
-use Rattle.std.proofs.lemmas.Bool.{cases_Bool, both_ways, eqb-true, ltb-true, lt-ltb}
+use Rattle.std.proofs.lemmas.Bool.{cases_Bool, both_ways, eqb-true, ne_eqb, ltb-true, lt-ltb}
 use Rattle.std.proofs.lemmas.List.{drop_more, drop_all}
 use Rattle.calculus.specs.declared.kind.Kind.{Kind}
 use Rattle.calculus.specs.declared.kind.Kind.TheVariants.{Blank, Variable, Zero, Successor, Rec, Lambda, Apply, Triv, Pair, Fst, Snd, Abort, Inl, Inr, Case, Query}
@@ -206,22 +206,22 @@ judged_closed ns (Some k) e =
       (λ (u, g, b). some_none k (e ∙ ap (fault_under (0 ∷ [])) (sym g) ∙ no_fault u b)),
     )
 
--- the scan's steps: i nodes are read, n is the next, and the stack's top is at t
-module _ (ns : List Node) (st : List ℕ) (i t : ℕ) (goal : Option ℕ) (inv : goal ≡ shift i (fault_under (drop t st) (drop i ns))) where
-  pub fault_more : (n : Node) (top : List ℕ) → t < length st → i < length ns → n ≡ get_or ns i n
-      → true ≡ fits_under (get_or st t 0) n → top ≡ child_depths n.kind (get_or st t 0) ++ drop (t + 1) st
-      → goal ≡ shift (i + 1) (fault_under top (drop (i + 1) ns))
-  fault_more n top h l is g e = rw (e, ← shift_further) (rw (drop_more st t 0 h, drop_read ns i n l is, ← g) at inv)
+-- the scan's turns: i nodes are read, and n is the next; the stack is st
+module _ (ns : List Node) (st : List ℕ) (i : ℕ) (goal : Option ℕ) (inv : goal ≡ shift i (fault_under st (drop i ns))) where
+  pub fault_more : (n : Node) (d : ℕ) (ds : List ℕ) → st ≡ d ∷ ds → i < length ns → n ≡ get_or ns i n
+      → true ≡ fits_under d n → goal ≡ shift (i + 1) (fault_under (child_depths n.kind d ++ ds) (drop (i + 1) ns))
+  fault_more n d ds e l is g = rw (← shift_further) (rw (e, drop_read ns i n l is, ← g) at inv)
 
-  pub fault_unfit : (n : Node) → t < length st → i < length ns → n ≡ get_or ns i n
-      → false ≡ fits_under (get_or st t 0) n → Some i ≡ goal
-  fault_unfit n h l is g = sym (rw (drop_more st t 0 h, drop_read ns i n l is, ← g, add-zero) at inv)
+  pub fault_unfit : (n : Node) (d : ℕ) (ds : List ℕ) → st ≡ d ∷ ds → i < length ns → n ≡ get_or ns i n
+      → false ≡ fits_under d n → Some i ≡ goal
+  fault_unfit n d ds e l is g = sym (rw (e, drop_read ns i n l is, ← g, add-zero) at inv)
 
-  pub fault_late : length st ≤ t → i < length ns → Some i ≡ goal
-  fault_late h l = sym (rw (drop_all t st h, drop_more ns i blank l, add-zero) at inv)
+  pub fault_late : st ≡ [] → i < length ns → Some i ≡ goal
+  fault_late e l = sym (rw (e, drop_more ns i blank l, add-zero) at inv)
 
-  pub fault_ended : length st ≤ t → length ns ≤ i → None ≡ goal
-  fault_ended h l = sym (rw (drop_all t st h, drop_all i ns l) at inv)
-
-  pub fault_unended : t < length st → length ns ≤ i → Some i ≡ goal
-  fault_unended h l = sym (rw (drop_more st t 0 h, drop_all i ns l, add-zero) at inv)
+  pub fault_over : length ns ≤ i → goal ≡ cond (eqb (length st) 0) None (Some i)
+  fault_over l = over st (rw (drop_all i ns l) at inv)
+    where
+      over : (ds : List ℕ) → goal ≡ shift i (fault_under ds []) → goal ≡ cond (eqb (length ds) 0) None (Some i)
+      over [] e = e
+      over (d ∷ ds) e = e ∙ ap Some (add-zero i) ∙ ap (λ b. cond b None (Some i)) (sym (ne_eqb (suc (length ds)) 0 (λ z. omega arith)))

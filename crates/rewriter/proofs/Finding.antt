@@ -17,9 +17,8 @@ use Rattle.rewriter.specs.Contexts.{Context, plug, hole_place}
 use Rattle.rewriter.specs.Redexes.{taken, RedexAt}
 use Rattle.rewriter.specs.Searches.{focus, rule_in}
 use Rattle.rewriter.proofs.Plugs.{before, behind, flat_plug, before_length, no_value, no_step, steps_at}
-use Rattle.rewriter.proofs.Views.{Ready, ready_fapp, ready_rec, ready_fst, ready_snd, ready_abort, ready_case, ready_query, ready_no_value, View, is_value, at_variable, at_ready, view, focus_value, focus_ready, focus_variable}
+use Rattle.rewriter.proofs.Views.{Ready, ready_fapp, ready_rec, ready_fst, ready_snd, ready_abort, ready_case, ready_query, ready_no_value, View, is_value, at_variable, at_ready, view, at_nothing, focus_value, focus_ready, focus_variable}
 use Rattle.rewriter.proofs.Decisions.{Decided, decided, contracts_step}
-use Rattle.rewriter.proofs.Focusing.{at_nothing}
 use Rattle.rewriter.proofs.Sizes.{size_some}
 
 value_focus : {t : Term} → Value t → focus None 1 0 0 (flat t) ≡ at.Value

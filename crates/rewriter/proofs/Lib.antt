@@ -5,7 +5,6 @@ pub mod Flats
 pub mod Puts
 pub mod Writings
 pub mod Numerals
-pub mod Focusing
 pub mod Plugs
 pub mod Views
 pub mod Decisions

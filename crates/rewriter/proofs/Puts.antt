@@ -1,10 +1,9 @@
 -- `substituted` is substitution on trees, and the turns of the loop that computes it.
 --   substituted_onto   at a term and what follows it
 --   put_flat           at the body of a binder
---   turn_hit, turn_miss, turn_end, turn_done   the turns and the ends of the loop
-use Rattle.std.proofs.Common.{◌≡◌, ℕ, zero, suc, ◌+◌, ◌<◌, ◌≤◌, true, false, cond, eqb, List, [], ◌∷◌, ◌++◌, length, get_or, drop, Some, None, Option, unwrap_or, sym, refl, ap, ◌∙◌, inl, inr}
+--   turn_hit, turn_miss   the turns of the loop
+use Rattle.std.proofs.Common.{◌≡◌, ℕ, zero, suc, ◌+◌, ◌<◌, true, false, cond, eqb, List, [], ◌∷◌, ◌++◌, length, get_or, drop, Some, None, Option, unwrap_or, sym, refl, ap, ◌∙◌, inl, inr}
 use Rattle.std.proofs.lemmas.Bool.{cases_eq, eq-eqb, ne_eqb}
-use Rattle.std.proofs.lemmas.List.{drop_more, drop_all}
 use Rattle.calculus.specs.declared.kind.Kind.TheVariants.{Variable, Successor, Rec, Lambda, Apply, Pair, Fst, Snd, Abort, Inl, Inr, Case, Query}
 use Rattle.calculus.specs.declared.node.Node.{Node}
 use Rattle.calculus.specs.Kinds.{node}
@@ -72,28 +71,18 @@ substituted_onto v (QU q e) d ds ns = ap (λ l. node Query q ∷ l) (substituted
 pub put_flat : (v b : Term) (ns : List Node) → substituted (flat v) (0 ∷ []) (onto b ns) ≡ flat (put (one v) b)
 put_flat v b ns = substituted_onto v b 0 [] ns
 
--- the loop stands at the node n, the place i of the body, with the top of its stack at t
-module _ (v : List Node) (st : List ℕ) (t : ℕ) (body : List Node) (i : ℕ) (n : Node)
-    (h : t < length st) (l : i < length body) (is : n ≡ get_or body i n)
+-- the loop stands at the node n, the place i of the body, with the stack d ∷ ds
+module _ (v : List Node) (st : List ℕ) (d : ℕ) (ds : List ℕ) (body : List Node) (i : ℕ) (n : Node)
+    (e : st ≡ d ∷ ds) (l : i < length body) (is : n ≡ get_or body i n)
   where
-    here : substituted v (drop t st) (drop i body) ≡ cond (hits (get_or st t 0) n) (v ++ substituted v (drop (t + 1) st) (drop (i + 1) body))
-        (n ∷ substituted v (child_depths n.kind (get_or st t 0) ++ drop (t + 1) st) (drop (i + 1) body))
-    here = rw (drop_more st t 0 h, drop_read body i n l is)
+    here : substituted v st (drop i body) ≡ cond (hits d n) (v ++ substituted v ds (drop (i + 1) body))
+        (n ∷ substituted v (child_depths n.kind d ++ ds) (drop (i + 1) body))
+    here = rw (e, drop_read body i n l is)
 
-    pub turn_hit : (done goal : List Node) → true ≡ hits (get_or st t 0) n → done ++ substituted v (drop t st) (drop i body) ≡ goal
-        → done ++ (v ++ substituted v (drop (t + 1) st) (drop (i + 1) body)) ≡ goal
+    pub turn_hit : (done goal : List Node) → true ≡ hits d n → done ++ substituted v st (drop i body) ≡ goal
+        → done ++ (v ++ substituted v ds (drop (i + 1) body)) ≡ goal
     turn_hit done goal b inv = rw (here, ← b) at inv
 
-    pub turn_miss : (done goal : List Node) → false ≡ hits (get_or st t 0) n → done ++ substituted v (drop t st) (drop i body) ≡ goal
-        → done ++ ((n ∷ []) ++ substituted v (child_depths n.kind (get_or st t 0) ++ drop (t + 1) st) (drop (i + 1) body)) ≡ goal
+    pub turn_miss : (done goal : List Node) → false ≡ hits d n → done ++ substituted v st (drop i body) ≡ goal
+        → done ++ ((n ∷ []) ++ substituted v (child_depths n.kind d ++ ds) (drop (i + 1) body)) ≡ goal
     turn_miss done goal b inv = rw (here, ← b) at inv
-
-pub turn_end : (v : List Node) (st : List ℕ) (t : ℕ) (ns : List Node) → length st ≤ t → substituted v (drop t st) ns ≡ []
-turn_end v st t ns h = ap (λ s. substituted v s ns) (drop_all t st h)
-
-at_nil : (v : List Node) (ds : List ℕ) → substituted v ds [] ≡ []
-at_nil v [] = refl
-at_nil v (d ∷ ds) = refl
-
-pub turn_done : (v : List Node) (ds : List ℕ) (body : List Node) (i : ℕ) → length body ≤ i → substituted v ds (drop i body) ≡ []
-turn_done v ds body i h = ap (substituted v ds) (drop_all i body h) ∙ at_nil v ds

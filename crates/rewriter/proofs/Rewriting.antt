@@ -5,7 +5,7 @@
 --   rewritten    what the three parts leave
 use Rattle.std.proofs.Common.{◌≡◌, ℕ, ◌+◌, ◌-◌, ◌≤◌, List, [], ◌++◌, length, take, drop, Some, None, Option, sym, ap, ◌∙◌, subst, arith}
 use borrow.Rule.Slice.PartMut.{put_mid}
-use Rattle.std.proofs.lemmas.List.{take_at, drop_at, drop-drop, take_rest, length-take-le}
+use Rattle.std.proofs.lemmas.List.{take_at, drop_at, drop-drop, take_rest}
 use Rattle.calculus.specs.declared.node.Node.{Node}
 use Rattle.calculus.specs.Meanings.{Meaning, LawfulUnder}
 use Rattle.calculus.specs.Steps.{Step}
@@ -20,14 +20,6 @@ use Rattle.rewriter.proofs.Flats.{onto_flat}
 use Rattle.rewriter.proofs.Plugs.{before, behind, flat_plug, before_length, steps_at}
 use Rattle.rewriter.proofs.Decisions.{contracts_step}
 use Rattle.rewriter.proofs.Writings.{wrote_seq, wrote_none, wrote_part, wrote_whole, length_put, length_rest}
-
--- the first part, from the start of the list
-from_start : (was now ns : List Node) (at : ℕ) → at ≤ length ns
-    → Wrote was 0 (take (at - 0) ns) now (Some (length (take (at - 0) ns))) → Wrote was 0 (take at ns) now (Some at)
-from_start was now ns at h w =
-    let z : at - 0 ≡ at = omega arith in
-    let v : Wrote was 0 (take at ns) now (Some (length (take at ns))) = subst (λ j. Wrote was 0 (take j ns) now (Some (length (take j ns)))) z w in
-    subst (λ k. Wrote was 0 (take at ns) now (Some k)) (length-take-le at ns h) v
 
 module _ {profile : ℕ} {ns : List Node} {site : Site} (x : RedexAt profile ns site) (m : Meaning) (l : LawfulUnder profile m) where
   split : (e : Term) → flat (plug x.context e) ≡ before x.context [] ++ onto e (behind x.context [])
@@ -82,40 +74,36 @@ module _ {profile : ℕ} {ns : List Node} {site : Site} (x : RedexAt profile ns 
       (next, next_step t is, omega (arith, length_flat next), w.1, wrote_whole was now (flat next) n w)
 
   -- the table before, with the first part, with what is written to its rest, and after
-  module _ (was one part : List Node) (same : length one ≡ length was) (room : length ns ≤ length was)
-      (kept : length part ≡ length (take (length one - site.at) (drop site.at one)))
-      (start : Wrote was 0 (take (site.at - 0) ns) one (Some (length (take (site.at - 0) ns))))
+  module _ (was one part : List Node) (h : ℕ) (same : length one ≡ length was)
+      (kept : length part ≡ length (take (length one - h) (drop h one)))
+      (front : Wrote was 0 (take site.at ns) one (Some h))
     where
-      fits : site.at ≤ length was
-      fits = omega (arith, x.places)
-
-      front : Wrote was 0 (take site.at ns) one (Some site.at)
-      front = from_start was one ns site.at (omega (arith, x.places)) start
+      fits : h ≤ length one
+      fits = omega arith
 
       -- what was written to the rest fits there
-      pub within : (k : ℕ) → Replaces m ns site (take (length one - site.at) (drop site.at one)) part (Some k)
-          → site.at + k ≤ length was
+      pub within : (k : ℕ) → Replaces m ns site (take (length one - h) (drop h one)) part (Some k) → h + k ≤ length was
       within k w =
-          let v = w x.redex new _ there (x.contracts m l).1 in omega (arith, v.1, fits, length_rest one site.at)
+          let v = w x.redex new _ there (x.contracts m l).1 in omega (arith, v.1, length_rest one h)
 
-      pub too_long : Replaces m ns site (take (length one - site.at) (drop site.at one)) part None
+      pub too_long : Replaces m ns site (take (length one - h) (drop h one)) part None
           → (t : Term) → flat t ≡ ns → Rewritten m t was one None
       too_long w =
           by_wrote was one None
           (subst (λ z. Wrote was 0 z one None) (sym next_flat)
-          (wrote_seq was one one (take site.at ns) _ 0 site.at None same front
-          (wrote_none one one (flat new) (drop site.end ns) site.at
-          (wrote_part one part (flat new) site.at None (omega (arith, fits)) kept (w x.redex new _ there (x.contracts m l).1)))))
+          (wrote_seq was one one (take site.at ns) _ 0 h None same front
+          (wrote_none one one (flat new) (drop site.end ns) h
+          (wrote_part one part (flat new) h None fits kept (w x.redex new _ there (x.contracts m l).1)))))
 
       pub rewritten : (now : List Node) (k : ℕ) (r : Option ℕ)
-          → Replaces m ns site (take (length one - site.at) (drop site.at one)) part (Some k)
-          → Wrote (put_mid site.at (length one - site.at) one part) (site.at + k) (take (length ns - site.end) (drop site.end ns)) now r
+          → Replaces m ns site (take (length one - h) (drop h one)) part (Some k)
+          → Wrote (put_mid h (length one - h) one part) (h + k) (take (length ns - site.end) (drop site.end ns)) now r
           → (t : Term) → flat t ≡ ns → Rewritten m t was now r
       rewritten now k r w v =
           by_wrote was now r
           (subst (λ z. Wrote was 0 z now r) (sym next_flat)
-          (wrote_seq was one now (take site.at ns) _ 0 site.at r same front
-          (wrote_seq one (put_mid site.at (length one - site.at) one part) now (flat new) (drop site.end ns) site.at (site.at + k) r
-          (length_put one part site.at (omega (arith, fits)) kept)
-          (wrote_part one part (flat new) site.at (Some k) (omega (arith, fits)) kept (w x.redex new _ there (x.contracts m l).1))
-          (subst (λ z. Wrote (put_mid site.at (length one - site.at) one part) (site.at + k) z now r) (take_rest ns site.end) v))))
+          (wrote_seq was one now (take site.at ns) _ 0 h r same front
+          (wrote_seq one (put_mid h (length one - h) one part) now (flat new) (drop site.end ns) h (h + k) r
+          (length_put one part h fits kept)
+          (wrote_part one part (flat new) h (Some k) fits kept (w x.redex new _ there (x.contracts m l).1))
+          (subst (λ z. Wrote (put_mid h (length one - h) one part) (h + k) z now r) (take_rest ns site.end) v))))

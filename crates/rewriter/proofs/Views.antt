@@ -2,8 +2,9 @@
 -- search finds out which.
 --   Ready          an eliminator that has its values
 --   View, view     the three cases
+--   at_nothing       the search ends where nothing is wanted
 --   focus_value, focus_variable, focus_ready   what the search comes to in each
-use Rattle.std.proofs.Common.{◌≡◌, ℕ, suc, ◌+◌, List, [], Some, None, Option, sym, refl, ap, ◌∙◌, add-zero, zero-add, one-add, arith}
+use Rattle.std.proofs.Common.{◌≡◌, ℕ, suc, ◌+◌, List, [], ◌∷◌, Some, None, Option, sym, refl, ap, ◌∙◌, add-zero, zero-add, one-add, arith}
 use Rattle.calculus.specs.declared.node.Node.{Node}
 use Rattle.calculus.specs.Syntax.{Term, VA, ZE, SU, RE, LA, AP, TR, PA, FS, SN, AB, IL, IR, CA, QU, onto, size, Value, val_z, val_s, val_abs, val_null, val_prod, val_inl, val_inr}
 use Rattle.calculus.proofs.Reading.{walk}
@@ -11,8 +12,7 @@ use Rattle.rewriter.specs.declared.focus.Focus.{Focus}
 use Rattle.rewriter.specs.declared.focus.Focus.TheVariants as at
 use Rattle.rewriter.specs.Contexts.{Context, hole, in_s, in_fapp_left, in_fapp_right, in_rec, in_pair_left, in_pair_right, in_fst, in_snd, in_abort, in_inl, in_inr, in_case, in_query, plug, hole_place}
 use Rattle.rewriter.specs.Redexes.{taken}
-use Rattle.rewriter.specs.Searches.{focus}
-use Rattle.rewriter.proofs.Focusing.{at_nothing}
+use Rattle.rewriter.specs.Searches.{focused, focus}
 
 pub data Ready : Term → Type 0 where
   ready_fapp : {f a : Term} → Value f → Value a → Ready (AP f a)
@@ -118,6 +118,10 @@ view (IL t e) = view_inl (view e) t
 view (IR t e) = view_inr (view e) t
 view (CA e a b) = view_case (view e) a b
 view (QU q e) = view_query (view e) q
+
+pub at_nothing : (last : Option ℕ) (i : ℕ) (ns : List Node) → focus last 0 0 i ns ≡ focused last i
+at_nothing last i [] = refl
+at_nothing last i (n ∷ ns) = refl
 
 two_add : (p : ℕ) → 2 + p ≡ suc (suc p)
 two_add p = omega arith

@@ -3,8 +3,7 @@
 --   wrote_none    what does not fit does not fit with more behind it
 --   wrote_part    a writing to the part from a place on
 --   wrote_on      what was to come follows what has been written
---   wrote_short   what does not fit leaves the whole too long
---   wrote_all     all has been written
+--   wrote_kept    what stands behind the writing is kept
 --   wrote_whole   the table after a writing to its front
 use Rattle.std.proofs.Common.{◌≡◌, ℕ, ◌+◌, ◌-◌, ◌<◌, ◌≤◌, List, [], ◌++◌, length, take, drop, Some, None, Option, sym, ap, ◌∙◌, append_assoc, arith, length-append, length-drop}
 use lib.Seq.{take-append-add}
@@ -71,18 +70,6 @@ wrote_on was now more tail goal used k w h = ap (λ l. l ++ tail) w.2 ∙ append
 pub wrote_kept : (first was now more : List Node) (used k : ℕ)
     → Wrote was used more now (Some k) → drop used was ≡ drop used first → drop k now ≡ drop k first
 wrote_kept first was now more used k w h = w.3 ∙ drop_later was first used k (omega arith) h
-
-pub wrote_short : (was more tail goal : List Node) (used : ℕ) → used ≤ length was
-    → length was < used + length more → take used was ++ (more ++ tail) ≡ goal → length was < length goal
-wrote_short was more tail goal used l w h =
-    let e : length (take used was ++ (more ++ tail)) ≡ length goal = ap length h in
-    omega (arith, simp (length-append, length-append) at e, length-take-le used was l)
-
-pub wrote_all : (first out goal tail : List Node) (used : ℕ) → used ≤ length out → length out ≡ length first
-    → tail ≡ [] → take used out ++ tail ≡ goal → drop used out ≡ drop used first → Wrote first 0 goal out (Some used)
-wrote_all first out goal tail used l s e h d =
-    let q : take used out ≡ goal = sym (append-nil (take used out)) ∙ ap (λ z. take used out ++ z) (sym e) ∙ h in
-    (omega (arith, ap length q, length-take-le used out l), omega arith, q, d)
 
 pub wrote_whole : (was now more : List Node) (k : ℕ) → Wrote was 0 more now (Some k) → now ≡ more ++ drop k was
 wrote_whole was now more k w = sym (take-append-drop k now) ∙ ap (λ z. z ++ drop k now) w.2 ∙ ap (λ z. more ++ z) w.3

@@ -2,9 +2,11 @@
 --   child_depths k d   how many binders stand around each child of a node of the kind k that stands under d binders
 --   is_variable        whether a kind is that of variables
 --   Within b ds        no depth in a list is above b
+--   HasRoom n ns       a stack of n depths is large enough for the nodes ns, and 16 bits are for each depth
 -- Assumes nothing.
-use Rattle.std.specs.Prelude.{ℕ, suc, ◌≤◌, Bool, true, false, List, [], ◌∷◌}
+use Rattle.std.specs.Prelude.{ℕ, suc, ◌*◌, ◌<◌, ◌≤◌, Bool, true, false, List, [], ◌∷◌, length}
 use Rattle.calculus.specs.declared.kind.Kind.{Kind}
+use Rattle.calculus.specs.declared.node.Node.{Node}
 use Rattle.calculus.specs.declared.kind.Kind.TheVariants.{Blank, Variable, Zero, Successor, Rec, Lambda, Apply, Triv, Pair, Fst, Snd, Abort, Inl, Inr, Case, Query}
 
 abbrev pub child_depths : Kind → ℕ → List ℕ
@@ -46,3 +48,7 @@ is_variable Query = false
 abbrev pub Within : ℕ → List ℕ → Type 0
 Within b [] = Unit {0}
 Within b (d ∷ ds) = (d ≤ b) × Within b ds
+
+-- A node takes one depth from the stack and puts at most three on it, and adds at most one binder.
+abbrev pub HasRoom : ℕ → List Node → Type 0
+HasRoom n ns = (2 * length ns < n) × (length ns ≤ 65535)

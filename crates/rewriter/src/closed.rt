@@ -1,8 +1,9 @@
 // Whether nodes are one closed term.
-ghost use Rattle.std.specs.Prelude.{◌≡◌, ◌+◌, ◌*◌, ◌≤◌, length};
+ghost use Rattle.std.specs.Prelude.{◌≡◌};
+ghost use Rattle.rewriter.specs.Depths.{HasRoom};
 ghost use Rattle.rewriter.specs.ClosedTerms.{fits_under, JudgedClosed};
 
-use crate::depths::push_depths;
+use crate::depths::Depths;
 use calculus::kind::Kind;
 use calculus::node::Node;
 use terms::is_in_range;
@@ -14,36 +15,26 @@ const ANY_TYPE: usize = 65536;
 fn fits_under(node: Node, depth: u16) -> bool
     ensures value { result ≡ fits_under depth node }
 {
-    match node.kind {
-        Kind::Variable => node.number < depth && is_in_range(node, ANY_TYPE),
-        _ => is_in_range(node, ANY_TYPE),
-    }
+    let in_scope = node.kind != Kind::Variable || node.number < depth;
+    in_scope && is_in_range(node, ANY_TYPE)
 }
 
 // Where the nodes stop being one closed term: nowhere, or at the first node at fault, or at the end of an unended term.
-// `depths` is scratch: a stack of the depths of the terms that are still to come.
-pub fn closed_fault(nodes: &[Node], depths: &mut [u16]) -> Option<usize>
-    requires { (length nodes.now ≤ 65535) × (2 * length nodes.now + 4 ≤ length depths.old) }
+// `depths` is scratch.
+pub fn closed_fault<const N: usize>(nodes: &[Node], depths: &mut Depths<N>) -> Option<usize>
+    requires room { HasRoom N nodes.now }
     ensures judged { JudgedClosed nodes.now result }
 {
-    let mut top = depths.len() - 1;
-    depths[top] = 0;
-    let mut i = 0;
-    while i < nodes.len() {
-        if top == depths.len() {
-            return Some(i);
+    depths.restart(0);
+    for (i, node) in nodes.iter().enumerate() {
+        match depths.pop() {
+            Some(depth) if fits_under(*node, depth) => depths.push_children(node.kind, depth),
+            _ => return Some(i),
         }
-        let node = nodes[i];
-        let depth = depths[top];
-        if !fits_under(node, depth) {
-            return Some(i);
-        }
-        top = push_depths(depths, top + 1, node.kind, depth);
-        i += 1;
     }
-    if top < depths.len() {
-        Some(nodes.len())
-    } else {
+    if depths.is_empty() {
         None
+    } else {
+        Some(nodes.len())
     }
 }

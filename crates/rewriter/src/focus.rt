@@ -1,6 +1,6 @@
 // Where evaluation of a term stands: found in one pass over its nodes.
-ghost use Rattle.std.specs.Prelude.{◌≡◌, ◌≤◌, length, None as none};
-ghost use Rattle.rewriter.specs.Searches.{role_of_lem, focus};
+ghost use Rattle.std.specs.Prelude.{◌≡◌, None as none};
+ghost use Rattle.rewriter.specs.Searches.{role_of_lem, focused, focus};
 
 use calculus::kind::Kind;
 use calculus::node::Node;
@@ -40,39 +40,42 @@ fn role_of(kind: Kind) -> Role
     }
 }
 
+// Where evaluation stands once all values are there, if those of the last eliminator seen end before `upto`.
+fn focus_at(last: Option<usize>, upto: usize) -> Focus
+    ensures value { result ≡ focused last upto }
+{
+    last.map_or(Focus::Value, |at| Focus::Eliminator { at, upto })
+}
+
 // Where evaluation of the term that the nodes are stands. It goes from left to right, and an eliminator holds up all that
 // was seen before it: so only the last one counts, with how many of its values are still wanted. The body of a function is
 // passed over.
 pub fn focus_of(nodes: &[Node]) -> Focus
-    requires { length nodes.now ≤ 65535 }
     ensures value { result ≡ focus none 1 0 0 nodes.now }
 {
     let mut last = None;
     let mut wanted = 1;
     let mut passing = 0;
-    let mut i = 0;
-    while i < nodes.len() && wanted + passing > 0 {
-        let node = nodes[i];
+    for (i, node) in nodes.iter().enumerate() {
+        if wanted == 0 && passing == 0 {
+            return focus_at(last, i);
+        }
         if passing > 0 {
             passing = passing - 1 + node.kind.children();
-        } else {
-            match role_of(node.kind) {
-                Role::Constructor(n) => wanted = wanted - 1 + n,
-                Role::Function => {
-                    wanted -= 1;
-                    passing = 1;
-                }
-                Role::Eliminator(n) => {
-                    last = Some(i);
-                    wanted = n;
-                }
-                Role::Open => return Focus::Variable,
-            }
+            continue;
         }
-        i += 1;
+        match role_of(node.kind) {
+            Role::Constructor(n) => wanted = wanted - 1 + n,
+            Role::Function => {
+                wanted -= 1;
+                passing = 1;
+            }
+            Role::Eliminator(n) => {
+                last = Some(i);
+                wanted = n;
+            }
+            Role::Open => return Focus::Variable,
+        }
     }
-    match last {
-        None => Focus::Value,
-        Some(at) => Focus::Eliminator { at, upto: i },
-    }
+    focus_at(last, nodes.len())
 }

@@ -3,7 +3,7 @@
 #![tactic(auto)]
 
 pub mod closed;
-mod depths;
+pub mod depths;
 mod focus;
 pub mod laws;
 mod parts;

@@ -8,12 +8,10 @@ use terms::end_of_term;
 
 // The place just past the term that begins at `at`, where one does.
 pub fn past_term(nodes: &[Node], at: usize) -> usize
-    requires { (at ≤ length nodes.now) × (length nodes.now ≤ 65535) }
-    ensures within { (at ≤ result) × (result ≤ length nodes.now) }
+    requires { at ≤ length nodes.now }
+    ensures after { at ≤ result }
+    ensures within { result ≤ length nodes.now }
     ensures end { (t : Term) (rest : List NodeOf) → drop at nodes.now ≡ onto t rest → result ≡ at + size t }
 {
-    match end_of_term(nodes, at) {
-        Some(end) => end,
-        None => nodes.len(),
-    }
+    end_of_term(nodes, at).unwrap_or(nodes.len())
 }

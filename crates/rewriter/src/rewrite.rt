@@ -1,19 +1,21 @@
 // One step: the next term, written to another table.
-ghost use Rattle.std.specs.Prelude.{◌≡◌, ◌+◌, ◌*◌, ◌≤◌, [], ◌∷◌, ◌++◌, length, Some as some};
+ghost use Rattle.std.specs.Prelude.{◌≡◌, ◌+◌, ◌≤◌, [], ◌∷◌, ◌++◌, length, Some as some};
 ghost use Rattle.calculus.specs.declared.answer.Answer.{Answer as AnswerOf};
 ghost use Rattle.calculus.specs.declared.kind.Kind.TheVariants.{Apply, Rec};
 ghost use Rattle.calculus.specs.Kinds.{node};
 ghost use Rattle.calculus.specs.Meanings.{reply};
 ghost use Rattle.calculus.specs.Syntax.{Term, flat};
+ghost use Rattle.rewriter.specs.Depths.{HasRoom};
 ghost use Rattle.rewriter.specs.Redexes.{RedexAt};
 ghost use Rattle.rewriter.specs.Rewrites.{StandsAt, Replaces, Rewritten};
 ghost use Rattle.rewriter.specs.Substituted.{substituted};
 ghost use Rattle.rewriter.specs.Writes.{Wrote};
 
+use crate::depths::Depths;
 use crate::parts::past_term;
 use crate::site::{Rule, Site};
 use crate::substitution::substitute;
-use crate::writing::{write, write_front, write_one};
+use crate::writing::write;
 use calculus::kind::Kind;
 use calculus::node::Node;
 use hosts::host::Host;
@@ -21,14 +23,14 @@ use hosts::reply::put_answer;
 
 // Writes what a recursion over a successor becomes: an application of `step`, with `number` in place of its variable, to
 // the recursion over `number`. That recursion's parts stand in a row in `parts`.
-fn unroll(
+fn unroll<const N: usize>(
     number: &[Node],
     step: &[Node],
     parts: &[Node],
-    depths: &mut [u16],
+    depths: &mut Depths<N>,
     out: &mut [Node],
 ) -> Option<usize>
-    requires { (length step.now ≤ 65535) × (2 * length step.now + 4 ≤ length depths.old) }
+    requires room { HasRoom N step.now }
     ensures wrote { Wrote out.old 0 (node Apply 0 ∷ (substituted number.now (0 ∷ []) step.now ++ (node Rec 0 ∷ parts.now))) out.new result }
 {
     let apply = Node {
@@ -39,15 +41,9 @@ fn unroll(
         kind: Kind::Rec,
         number: 0,
     };
-    let Some(head) = write_one(out, 0, apply) else {
-        return None;
-    };
-    let Some(length) = substitute(step, number, depths, &mut out[head..]) else {
-        return None;
-    };
-    let Some(used) = write_one(out, head + length, rec) else {
-        return None;
-    };
+    let head = write(out, 0, &[apply])?;
+    let length = substitute(step, number, depths, &mut out[head..])?;
+    let used = write(out, head + length, &[rec])?;
     write(out, used, parts)
 }
 
@@ -56,29 +52,33 @@ fn put_reply<H: Host>(question: u16, number: u16, out: &mut [Node], host: &mut H
     ensures wrote { (a : AnswerOf) → (H.meaning host.old).answer question number ≡ some a → Wrote out.old 0 (flat (reply a)) out.new result }
     ensures kept { H.meaning host.new ≡ H.meaning host.old }
 {
-    let Some(answer) = host.query(question, number) else {
-        return None;
-    };
-    put_answer(answer, out)
+    put_answer(host.query(question, number)?, out)
 }
 
-// Writes what the redex at a site becomes to the front of `out`.
-fn replace<H: Host>(
+// Writes what the redex at a site becomes to the front of `out`. What it is lent stays apart: a struct of the table, the
+// stack and the host would be made for this one call, and taken apart here.
+fn replace<H: Host, const N: usize>(
     front: &[Node],
     site: Site,
-    depths: &mut [u16],
+    depths: &mut Depths<N>,
     out: &mut [Node],
     host: &mut H,
 ) -> Option<usize>
     requires redex { StandsAt (H.meaning host.old) front.now site }
-    requires places { (site.at + 2 ≤ site.upto) × ((site.upto ≤ site.end) × (site.end ≤ length front.now)) }
-    requires room { (length front.now ≤ 65535) × (2 * length front.now + 4 ≤ length depths.old) }
+    requires values { site.at + 2 ≤ site.upto }
+    requires rest { site.upto ≤ site.end }
+    requires inside { site.end ≤ length front.now }
+    requires room { HasRoom N front.now }
     ensures wrote { Replaces (H.meaning host.old) front.now site out.old out.new result }
     ensures kept { H.meaning host.new ≡ H.meaning host.old }
 {
-    let Site { at, upto, .. } = site;
-    let end = site.end;
-    match site.rule {
+    let Site {
+        at,
+        upto,
+        end,
+        rule,
+    } = site;
+    match rule {
         Rule::Beta => {
             let argument = past_term(front, at + 1);
             substitute(&front[at + 2..], &front[argument..upto], depths, out)
@@ -116,23 +116,22 @@ fn replace<H: Host>(
 
 // Writes the next term of the term in `front` to the front of `back`: the nodes before its redex, what the redex becomes,
 // and the nodes after it. Answers its length, or none where it is longer than `back`. The host is asked only for the
-// answer of a query that is the redex. `depths` is scratch for substitution.
-pub fn rewrite<H: Host>(
+// answer of a query that is the redex. `depths` is scratch.
+pub fn rewrite<H: Host, const N: usize>(
     front: &[Node],
     site: Site,
-    depths: &mut [u16],
+    depths: &mut Depths<N>,
     back: &mut [Node],
     host: &mut H,
 ) -> Option<usize>
     requires redex { RedexAt (H.meaning host.old).profile front.now site }
-    requires room { (length front.now ≤ 65535) × ((2 * length front.now + 4 ≤ length depths.old) × (length front.now ≤ length back.old)) }
+    requires room { HasRoom N front.now }
+    requires fits { length front.now ≤ length back.old }
     ensures step { (t : Term) → flat t ≡ front.now → Rewritten (H.meaning host.old) t back.old back.new result }
     ensures kept { H.meaning host.new ≡ H.meaning host.old }
 {
     let Site { at, end, .. } = site;
-    write_front(back, &front[0..at]);
-    let Some(length) = replace(front, site, depths, &mut back[at..], host) else {
-        return None;
-    };
-    write(back, at + length, &front[end..])
+    let head = write(back, 0, &front[..at])?;
+    let length = replace(front, site, depths, &mut back[head..], host)?;
+    write(back, head + length, &front[end..])
 }

@@ -1,5 +1,5 @@
 // The rule by which an eliminator that has its values is replaced.
-ghost use Rattle.std.specs.Prelude.{◌≡◌, ◌+◌, ◌<◌, length, drop, is_some};
+ghost use Rattle.std.specs.Prelude.{◌≡◌, is_some};
 ghost use Rattle.calculus.specs.Meanings.{question_shape};
 ghost use Rattle.rewriter.specs.Searches.{rule_for_lem, numeral_in, answer_rule_lem, rule_in};
 
@@ -54,25 +54,20 @@ fn has_question(profile: u32, question: u16) -> bool
 fn answer_rule(profile: u32, question: u16, nodes: &[Node]) -> Option<Rule>
     ensures value { result ≡ answer_rule_lem profile question (numeral_in nodes.now) }
 {
-    let Some(number) = numeral_of(nodes) else {
-        return None;
-    };
-    if number > usize::from(LARGEST_ASKED) || !has_question(profile, question) {
+    let number = u16::try_from(numeral_of(nodes)?).ok()?;
+    if number > LARGEST_ASKED || !has_question(profile, question) {
         return None;
     }
-    let number = number as u16;
     Some(Rule::Answer { question, number })
 }
 
-// The rule for the eliminator at `at`, which has its values, or none where its values fit no rule.
-pub fn rule_at(front: &[Node], at: usize, profile: u32) -> Option<Rule>
-    requires { at + 1 < length front.now }
-    ensures value { result ≡ rule_in profile (drop at front.now) }
+// The rule for the eliminator that the nodes begin with, which has its values, or none where its values fit no rule.
+pub fn rule_of(nodes: &[Node], profile: u32) -> Option<Rule>
+    ensures value { result ≡ rule_in profile nodes.now }
 {
-    let node = front[at];
-    let value = front[at + 1];
+    let (node, values) = nodes.split_first()?;
     match node.kind {
-        Kind::Query => answer_rule(profile, node.number, &front[at + 1..]),
-        kind => rule_for(kind, value.kind),
+        Kind::Query => answer_rule(profile, node.number, values),
+        kind => rule_for(kind, values.first()?.kind),
     }
 }

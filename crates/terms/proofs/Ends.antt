@@ -1,7 +1,7 @@
 -- Where terms end, as `after` reads it.
 --   after_onto    the count passes a whole term
 --   after_within  what is read stands in the list
---   ends_at       the end that is read is the end of the term there
+--   ends_at       what a scan from a place finds is where the term there ends
 --   after_more, after_ended, after_unended   a scan's next node, and its answers
 use Rattle.std.proofs.Common.{◌≡◌, ℕ, zero, suc, ◌+◌, ◌-◌, ◌<◌, ◌≤◌, List, [], ◌∷◌, length, get_or, drop, Some, None, Option, sym, ap, ◌∙◌, add-zero, arith, length-drop}
 use Rattle.std.proofs.lemmas.List.{drop_all}
@@ -10,7 +10,7 @@ use Rattle.calculus.specs.Kinds.{arity}
 use Rattle.calculus.specs.Syntax.{Term, onto, size}
 use Rattle.terms.specs.Scan.{further, shift, after}
 use Rattle.terms.specs.Whole.{EndsAt}
-use Rattle.terms.proofs.Places.{some_none, further_some, shift_some, shift_zero, further_shift, shift_further}
+use Rattle.terms.proofs.Places.{further_some, shift_some, shift_zero, further_shift, shift_further}
 use Rattle.calculus.proofs.Reading.{walk}
 use Rattle.terms.proofs.Places.{drop_read}
 
@@ -22,22 +22,26 @@ after_onto t p ns =
 
 pub after_within : (p : ℕ) (ns : List Node) (k : ℕ) → after p ns ≡ Some k → (k ≤ length ns) × (0 < p → 0 < k)
 after_within zero ns k e = let z : 0 ≡ k = cc in (omega arith, λ h. absurd (omega arith))
-after_within (suc p) [] k e = absurd (some_none k (sym e))
+after_within (suc p) [] k e = cc
 after_within (suc p) (n ∷ ns) k e =
     let (j, s, q) = further_some (after (arity n.kind + p) ns) k e in
     let h = after_within (arity n.kind + p) ns j s in
     (omega arith, λ _. omega arith)
 
-pub ends_at : (ns : List Node) (at : ℕ) (r : Option ℕ) → r ≡ shift at (after 1 (drop at ns)) → EndsAt ns at r
-ends_at ns at r e = record {
-  end = λ t rest d. e ∙ ap (λ l. shift at (after 1 l)) d ∙ ap (shift at) (after_onto t 0 rest) ∙ ap Some (omega arith);
-  within = λ k f.
-      let (j, s, q) = shift_some at (after 1 (drop at ns)) k (sym e ∙ f) in
-      let h = after_within 1 (drop at ns) j s in
-      let l = length-drop at ns in
-      (omega arith, omega arith);
-  value = e;
-}
+-- what a scan of the nodes from `at` on finds is where the term there ends
+pub ends_at : (ns rest : List Node) (at : ℕ) (o r : Option ℕ)
+    → rest ≡ drop at ns → after 1 rest ≡ o → r ≡ shift at o → EndsAt ns at r
+ends_at ns rest at o r d s e =
+    let v : r ≡ shift at (after 1 (drop at ns)) = e ∙ ap (shift at) (sym s ∙ ap (after 1) d) in
+    record {
+      end = λ t more h. v ∙ ap (λ l. shift at (after 1 l)) h ∙ ap (shift at) (after_onto t 0 more) ∙ ap Some (omega arith);
+      within = λ k f.
+          let (j, s, q) = shift_some at (after 1 (drop at ns)) k (sym v ∙ f) in
+          let h = after_within 1 (drop at ns) j s in
+          let l = length-drop at ns in
+          (omega arith, omega arith);
+      value = v;
+    }
 
 -- the scan's steps: it stands at i, n is the node there, and p terms are to come
 pub after_more : (ns : List Node) (i p r : ℕ) (n : Node)

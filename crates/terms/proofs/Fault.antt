@@ -2,10 +2,10 @@
 --   arity_le        no node has more than three children
 --   judged          the fault that is found is the first fault, and none is found in one term
 --   fault_of_term   one term has no fault
---   fault_more, fault_here, fault_ended, fault_unended   a scan's next node, and its answers
-use Rattle.std.proofs.Common.{◌≡◌, ℕ, zero, suc, ◌+◌, ◌-◌, ◌<◌, ◌≤◌, true, false, eqb, ◌⊎◌, List, [], ◌∷◌, ◌++◌, length, get_or, take, drop, replicate, Some, None, Option, sym, refl, ap, ◌∙◌, inl, inr, add-zero, arith}
+--   fault_here, fault_ended, fault_unended   a scan's answers
+use Rattle.std.proofs.Common.{◌≡◌, ℕ, zero, suc, ◌+◌, ◌<◌, ◌≤◌, true, false, eqb, ◌⊎◌, List, [], ◌∷◌, ◌++◌, length, get_or, take, drop, replicate, Some, None, Option, sym, refl, ap, ◌∙◌, inl, inr, add-zero, arith}
 use Rattle.std.proofs.lemmas.List.{drop_all}
-use Rattle.std.proofs.lemmas.Bool.{cases_Bool, both_ways, eqb-true}
+use Rattle.std.proofs.lemmas.Bool.{cases_Bool, eqb-true}
 use Rattle.calculus.specs.declared.kind.Kind.{Kind}
 use Rattle.calculus.specs.declared.kind.Kind.TheVariants.{Blank, Variable, Zero, Successor, Rec, Lambda, Apply, Triv, Pair, Fst, Snd, Abort, Inl, Inr, Case, Query}
 use Rattle.calculus.specs.declared.node.Node.{Node}
@@ -14,7 +14,7 @@ use Rattle.calculus.specs.Syntax.{Term, ZE, SU, RE, LA, AP, PA, FS, SN, AB, IL, 
 use Rattle.terms.specs.Ranges.{number_in_range, in_range, AllInRange}
 use Rattle.terms.specs.Scan.{further, shift, fault}
 use Rattle.terms.specs.Whole.{OneTerm, Judged}
-use Rattle.terms.proofs.Places.{some_none, further_none, further_some, shift_further}
+use Rattle.terms.proofs.Places.{some_none, further_none, further_some}
 use Rattle.calculus.proofs.Reading.{walk, one, two, three, gathered}
 use Rattle.terms.proofs.Places.{drop_read}
 
@@ -72,7 +72,7 @@ at_zero k m ns g = ap (λ z. node k z ∷ ns) (sym (eqb-true m 0 g))
 -- a node in range takes as many terms as it has children, and makes one
 gathers : (types : ℕ) (k : Kind) (m q : ℕ) (ts : List Term)
     → number_in_range types k m ≡ true → length ts ≡ arity k + q → Gathers (node k m) q ts (gathered k m ts)
-gathers types Blank m q ts g x = absurd (both_ways false refl g)
+gathers types Blank m q ts g x = cc
 gathers types Variable m q ts g x = (omega arith, λ ns. refl)
 gathers types Zero m q ts g x = (omega arith, λ ns. at_zero Zero m (ontos ts ns) g)
 gathers types Successor m q ts g x = gathers_one (node Successor m) SU (λ a ns. at_zero Successor m (onto a ns) g) q ts x
@@ -114,12 +114,12 @@ terms_one types ns (t ∷ (u ∷ ts), l, e, a) = absurd (omega arith)
 -- a list with no fault is terms
 terms_of : (types p : ℕ) (ns : List Node) → fault types p ns ≡ None → TermsInRange types p ns
 terms_of types zero [] e = ([], refl, refl, tt)
-terms_of types zero (n ∷ ns) e = absurd (some_none 0 e)
-terms_of types (suc p) [] e = absurd (some_none 0 e)
+terms_of types zero (n ∷ ns) e = cc
+terms_of types (suc p) [] e = cc
 terms_of types (suc p) (n ∷ ns) e =
     elim (cases_Bool (in_range types n)) [
       | inl g ↦ terms_cons types p n ns g (terms_of types (arity n.kind + p) ns (further_none _ (rw g at e)))
-      | inr g ↦ absurd (some_none 0 (rw g at e))
+      | inr g ↦ let none = rw g at e in cc
     ]
 
 -- what stands before a fault can be completed to terms
@@ -130,7 +130,7 @@ front_none : (types p : ℕ) (ns : List Node) (k : ℕ) → Some 0 ≡ Some k �
 front_none types p ns k e = let z : 0 ≡ k = cc in rw (← z) (omega arith, (replicate p (node Zero 0), terms_zeros types p))
 
 front : (types p : ℕ) (ns : List Node) (k : ℕ) → fault types p ns ≡ Some k → Front types p ns k
-front types zero [] k e = absurd (some_none k (sym e))
+front types zero [] k e = cc
 front types zero (n ∷ ns) k e = front_none types zero (n ∷ ns) k e
 front types (suc p) [] k e = front_none types (suc p) [] k e
 front types (suc p) (n ∷ ns) k e =
@@ -174,15 +174,7 @@ judged types ns (Some k) e =
       (λ w. some_none k (e ∙ fault_of_term types ns w)),
     )
 
--- the scan's steps: i nodes are read, n is the next, and p terms are to come
-pub fault_more : (types : ℕ) (ns : List Node) (i p r : ℕ) (n : Node)
-    → i < length ns → n ≡ get_or ns i n → 0 < p → in_range types n ≡ true → r ≡ arity n.kind
-    → shift i (fault types p (drop i ns)) ≡ shift (i + 1) (fault types (p - 1 + r) (drop (i + 1) ns))
-fault_more types ns i zero r n l e h g a = absurd (omega arith)
-fault_more types ns i (suc p) r n l e h g a =
-    let q : suc p - 1 + r ≡ arity n.kind + p = omega arith in
-    rw (drop_read ns i n l e, g, q, shift_further)
-
+-- the scan's answers: i nodes are read, and p terms are to come
 pub fault_here : (types : ℕ) (ns : List Node) (i p : ℕ) (n : Node)
     → i < length ns → n ≡ get_or ns i n → (p ≡ 0) ⊎ (in_range types n ≡ false)
     → shift i (fault types p (drop i ns)) ≡ Some i

@@ -1,7 +1,7 @@
 // Reading flat terms: one term or the first node at fault, and where a term ends.
 #![tactic(auto)]
 
-ghost use Rattle.std.specs.Prelude.{◌≡◌, ◌≤◌, length};
+ghost use Rattle.std.specs.Prelude.{◌≡◌};
 ghost use Rattle.terms.specs.Ranges.{in_range};
 ghost use Rattle.terms.specs.Whole.{Judged, EndsAt};
 
@@ -26,31 +26,30 @@ pub fn is_in_range(node: Node, types: usize) -> bool
 
 // Where the nodes stop being one term: nowhere, or at the first node at fault, or at the end of an unended term.
 pub fn first_fault(nodes: &[Node], types: usize) -> Option<usize>
-    requires { length nodes.now ≤ 65536 }
     ensures judged { Judged types nodes.now result }
 {
     let mut pending = 1;
-    for (i, n) in nodes.iter().enumerate() {
-        if !is_in_range(*n, types) || pending == 0 {
+    for (i, node) in nodes.iter().enumerate() {
+        if !is_in_range(*node, types) || pending == 0 {
             return Some(i);
         }
-        pending = pending - 1 + n.kind.children();
+        pending = pending - 1 + node.kind.children();
     }
     if pending > 0 { Some(nodes.len()) } else { None }
 }
 
 // The place just past the term that begins at `at`, whatever its numbers; none where the nodes end before it does.
 pub fn end_of_term(nodes: &[Node], at: usize) -> Option<usize>
-    requires { length nodes.now ≤ 65536 }
     ensures ends { EndsAt nodes.now at result }
 {
     let mut pending = 1;
-    let mut i = at;
-    while pending > 0 && i < nodes.len() {
-        pending = pending - 1 + nodes[i].kind.children();
-        i += 1;
+    for (i, node) in nodes.get(at..)?.iter().enumerate() {
+        pending = pending - 1 + node.kind.children();
+        if pending == 0 {
+            return Some(at + i + 1);
+        }
     }
-    if pending == 0 { Some(i) } else { None }
+    None
 }
 
 #[cfg(test)]

@@ -1,22 +1,21 @@
-use Rattle.std.proofs.Common.{◌<◌, ◌≤◌, length, sym, ap, ◌∙◌, arith}
-use Rattle.calculus.specs.Kinds.{arity}
+use Rattle.std.proofs.Common.{◌≤◌, length, Some, refl, sym, ap, ◌∙◌, add_assoc, arith}
+use Rattle.std.proofs.lemmas.List.{drop_all}
 use Rattle.terms.proofs.end_of_term.Goals as goal
-use Rattle.terms.proofs.Fault.{arity_le}
 use Rattle.terms.proofs.Ends.{ends_at, after_more, after_ended, after_unended}
 
-pub loop-pending-preserved : goal.loop-pending-preserved
-loop-pending-preserved c =
-    let a = arity_le c.index-nodes-i.result.kind in
-    let r = c.children.ensures ∙ ap (λ n. arity n.kind) (sym c.index-nodes-i.is) in
-    let step = after_more _ _ _ _ _ c.if-i-nodes.true c.index-nodes-i.is c.loop-pending-test.true r in
-    (omega arith, c.loop-pending.invariant.1 ∙ step)
+pub returns-in_err-node-items : goal.returns-in_err-node-items
+returns-in_err-node-items c =
+    let past : length c.args.nodes.now ≤ c.args.at = omega (arith, c.in_err-node-items.ensures.lookup.0) in
+    record { ends = ends_at _ _ _ _ _ (sym (drop_all c.args.at c.args.nodes.now past)) refl c.from_residual.ensures }
 
 pub returns-then-pending-eq0 : goal.returns-then-pending-eq0
 returns-then-pending-eq0 c =
-    record { ends = ends_at _ _ _ (sym (c.loop-pending.invariant.1 ∙ after_ended _ _ _ c.if-pending-eq0.true)) }
+    let inv = c.loop-i.invariant in
+    let step = after_more _ _ _ _ _ c.loop-i-test.true c.node-item.is inv.some c.children.ensures in
+    let found = inv.scan ∙ step ∙ after_ended _ _ _ c.if-pending-eq0.true in
+    record { ends = ends_at _ _ _ _ _ inv.rest found (ap Some (add_assoc c.args.at c.loop-i.i 1)) }
 
-pub returns-else-pending-eq0 : goal.returns-else-pending-eq0
-returns-else-pending-eq0 c =
-    let l : length c.args.nodes.now ≤ c.loop-pending.i = omega arith in
-    let h : 0 < c.loop-pending.pending = omega arith in
-    record { ends = ends_at _ _ _ (sym (c.loop-pending.invariant.1 ∙ after_unended _ _ _ l h)) }
+pub returns : goal.returns
+returns c =
+    let inv = c.loop-i.invariant in
+    record { ends = ends_at _ _ _ _ _ inv.rest (inv.scan ∙ after_unended _ _ _ c.loop-i-test.false inv.some) refl }

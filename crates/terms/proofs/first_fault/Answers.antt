@@ -1,21 +1,13 @@
-use Rattle.std.proofs.Common.{◌≡◌, ◌<◌, false, ◌⊎◌, length, Some, sym, ap, ◌∙◌, arith, rules}
+use Rattle.std.proofs.Common.{◌≡◌, false, ◌⊎◌, length, Some, sym, ap, ◌∙◌, arith, rules}
 use Rattle.terms.specs.Ranges.{in_range}
 use Rattle.terms.proofs.first_fault.Goals as goal
-use Rattle.terms.proofs.Fault.{arity_le, judged, fault_more, fault_here, fault_ended, fault_unended}
+use Rattle.terms.proofs.Fault.{judged, fault_here, fault_ended, fault_unended}
 
 pub returns-then-not-is_in_range : goal.returns-then-not-is_in_range
 returns-then-not-is_in_range c =
     let h : (c.loop-i.pending ≡ 0) ⊎ (in_range c.args.types c.index-nodes-i.result ≡ false) = search rules in
     let here = fault_here _ _ _ _ _ c.loop-i-test.true c.index-nodes-i.is h in
     record { judged = judged _ _ _ (sym (c.loop-i.invariant.1 ∙ here)) }
-
-pub loop-i-preserved : goal.loop-i-preserved
-loop-i-preserved c =
-    let a = arity_le c.index-nodes-i.result.kind in
-    let h : 0 < c.loop-i.pending = omega arith in
-    let g = sym c.if-not-is_in_range.ensures.value in
-    let step = fault_more _ _ _ _ _ _ c.loop-i-test.true c.index-nodes-i.is h g c.children.ensures in
-    (omega arith, c.loop-i.invariant.1 ∙ step)
 
 pub returns-then-pending-gt0 : goal.returns-then-pending-gt0
 returns-then-pending-gt0 c =

@@ -5,7 +5,7 @@ use Rattle.evaluator.proofs.evaluate.step_on.Goals as goal
 pub loop-site-init : goal.loop-site-init
 loop-site-init g c =
     let o = c.requires.term in
-    (refl, c.requires.tables.1.1.0, refl, going_first _ _ _ _ o.0 (o.1, o.2) c.requires.tables.0)
+    (refl, c.requires.twins, refl, going_first _ _ _ _ o.0 (o.1, o.2) c.requires.within)
 
 pub returns-in-Value : goal.returns-in-Value
 returns-in-Value g c = record {

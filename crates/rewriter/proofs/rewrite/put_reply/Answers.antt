@@ -26,7 +26,7 @@ same_answer o a b p q = cc
 pub returns : goal.returns
 returns g c = record {
   wrote = λ a e.
-      let s = same_answer _ _ a c.in-Some.ensures.value e in
+      let s = same_answer _ _ a c.in_ok-query.ensures.value e in
       rw (← s) (wrote_answer _ _ _ _ c.put_answer.auto.out c.put_answer.ensures.call);
   kept = search rules;
 }

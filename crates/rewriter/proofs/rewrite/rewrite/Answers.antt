@@ -4,41 +4,32 @@ use Rattle.rewriter.proofs.Writings.{length_put}
 use Rattle.rewriter.proofs.rewrite.rewrite.Goals as goal
 
 pub replace-requires : goal.replace-requires
-replace-requires g c =
-    let law = g.H.Host.lawful c.args.host.now in
-    record { redex = standing c.requires.redex _ (law, refl); places = search rules; room = search rules }
+replace-requires g c = let redex = standing c.requires.redex _ (g.H.Host.lawful c.args.host.now, refl) in search rules
 
-pub returns-in_default : goal.returns-in_default
-returns-in_default g c =
+pub returns-in_err-length-clause-step : goal.returns-in_err-length-clause-step
+returns-in_err-length-clause-step g c =
     let law = g.H.Host.lawful c.args.host.now in
-    record {
-      step = too_long c.requires.redex _ (law, refl) c.args.back.now c.write_front.new.out c.replace.new.out c.write_front.auto.out
-          (omega arith) c.replace.auto.out c.write_front.ensures.wrote c.in_default.ensures.wrote;
-      kept = c.in_default.ensures.kept;
-    }
+    rw c.from_residual-in_err-length.ensures (too_long c.requires.redex _ (law, refl) c.args.back.now c.write.new.out c.replace.new.out c.in_ok-head.head
+    c.write.auto.out c.replace.auto.out c.in_ok-head.ensures.wrote c.in_err-length.ensures.wrote)
 
-pub overflow_add-at : goal.overflow_add-at
-overflow_add-at g c =
+pub overflow_add-head : goal.overflow_add-head
+overflow_add-head g c =
     let law = g.H.Host.lawful c.args.host.now in
-    let h : c.args.site.at + c.in-Some.length ≤ length c.args.back.now =
-    within c.requires.redex _ (law, refl) c.args.back.now c.write_front.new.out c.replace.new.out c.write_front.auto.out
-    (omega arith) c.replace.auto.out c.write_front.ensures.wrote _ c.in-Some.ensures.wrote in
+    let h : c.in_ok-head.head + c.in_ok-length.length ≤ length c.args.back.now =
+    within c.requires.redex _ (law, refl) c.args.back.now c.write.new.out c.replace.new.out _ c.write.auto.out c.replace.auto.out
+    c.in_ok-head.ensures.wrote _ c.in_ok-length.ensures.wrote in
     search rules
 
-pub write-requires : goal.write-requires
-write-requires g c =
+pub write-requires-2 : goal.write-requires-2
+write-requires-2 g c =
     let law = g.H.Host.lawful c.args.host.now in
-    let h : c.args.site.at + c.in-Some.length ≤ length c.args.back.now =
-    within c.requires.redex _ (law, refl) c.args.back.now c.write_front.new.out c.replace.new.out c.write_front.auto.out
-    (omega arith) c.replace.auto.out c.write_front.ensures.wrote _ c.in-Some.ensures.wrote in
-    omega (arith, length_put c.write_front.new.out c.replace.new.out c.args.site.at (omega arith) c.replace.auto.out)
+    let h : c.in_ok-head.head + c.in_ok-length.length ≤ length c.args.back.now =
+    within c.requires.redex _ (law, refl) c.args.back.now c.write.new.out c.replace.new.out _ c.write.auto.out c.replace.auto.out
+    c.in_ok-head.ensures.wrote _ c.in_ok-length.ensures.wrote in
+    omega (arith, length_put c.write.new.out c.replace.new.out c.in_ok-head.head (omega arith) c.replace.auto.out)
 
-pub returns : goal.returns
-returns g c =
+pub returns-clause-step : goal.returns-clause-step
+returns-clause-step g c =
     let law = g.H.Host.lawful c.args.host.now in
-    record {
-      step = rewritten c.requires.redex _ (law, refl) c.args.back.now c.write_front.new.out c.replace.new.out c.write_front.auto.out
-          (omega arith) c.replace.auto.out c.write_front.ensures.wrote c.write.new.out c.in-Some.length c.write.result
-          c.in-Some.ensures.wrote c.write.ensures.wrote;
-      kept = c.in-Some.ensures.kept;
-    }
+    rewritten c.requires.redex _ (law, refl) c.args.back.now c.write.new.out c.replace.new.out _ c.write.auto.out c.replace.auto.out
+    c.in_ok-head.ensures.wrote c.write-2.new.out c.in_ok-length.length c.write-2.result c.in_ok-length.ensures.wrote c.write-2.ensures.wrote

@@ -1,23 +1,23 @@
 use Rattle.rewriter.proofs.Unrolling.{no_step, no_rec, unrolled}
 use Rattle.rewriter.proofs.rewrite.unroll.Goals as goal
 
-pub returns-in_default-substitute : goal.returns-in_default-substitute
-returns-in_default-substitute c = record {
-  wrote = no_step c.args.out.now c.write_one.new.out c.substitute.new.out _ _ _ c.args.parts.now c.in-Some.head
-      c.write_one.auto.out c.substitute.auto.out c.in-Some.ensures.wrote c.in_default-substitute.ensures.wrote;
+pub returns-in_err-length : goal.returns-in_err-length
+returns-in_err-length g c = record {
+  wrote = rw c.from_residual-in_err-length.ensures (no_step c.args.out.now c.write.new.out c.substitute.new.out _ _ _ c.args.parts.now c.in_ok-head.head
+      c.write.auto.out c.substitute.auto.out c.in_ok-head.ensures.wrote c.in_err-length.ensures.wrote);
 }
 
-pub returns-in_default-write_one : goal.returns-in_default-write_one
-returns-in_default-write_one c = record {
-  wrote = no_rec c.args.out.now c.write_one.new.out c.substitute.new.out _ _ _ c.args.parts.now c.in-Some.head
-      c.write_one.auto.out c.substitute.auto.out c.in-Some.ensures.wrote
-      c.write_one-2.new.out c.in-Some-substitute.length c.in-Some-substitute.ensures.wrote c.in_default-write_one.ensures.wrote;
+pub returns-in_err-used : goal.returns-in_err-used
+returns-in_err-used g c = record {
+  wrote = rw c.from_residual-in_err-used.ensures (no_rec c.args.out.now c.write.new.out c.substitute.new.out _ _ _ c.args.parts.now c.in_ok-head.head
+      c.write.auto.out c.substitute.auto.out c.in_ok-head.ensures.wrote
+      c.write-2.new.out c.in_ok-length.length c.in_ok-length.ensures.wrote c.in_err-used.ensures.wrote);
 }
 
 pub returns : goal.returns
-returns c = record {
-  wrote = unrolled c.args.out.now c.write_one.new.out c.substitute.new.out _ _ _ c.args.parts.now c.in-Some.head
-      c.write_one.auto.out c.substitute.auto.out c.in-Some.ensures.wrote
-      c.write_one-2.new.out c.write.new.out c.in-Some-substitute.length c.in-Some-write_one.used c.write.result
-      c.in-Some-substitute.ensures.wrote c.write_one-2.auto.out c.in-Some-write_one.ensures.wrote c.write.ensures.wrote;
+returns g c = record {
+  wrote = unrolled c.args.out.now c.write.new.out c.substitute.new.out _ _ _ c.args.parts.now c.in_ok-head.head
+      c.write.auto.out c.substitute.auto.out c.in_ok-head.ensures.wrote
+      c.write-2.new.out c.write-3.new.out c.in_ok-length.length c.in_ok-used.used c.write-3.result
+      c.in_ok-length.ensures.wrote c.write-2.auto.out c.in_ok-used.ensures.wrote c.write-3.ensures.wrote;
 }
