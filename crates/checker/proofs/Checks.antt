@@ -1,7 +1,10 @@
 -- What the outcome of the machine says of the rule, and exactly when a rule is accepted. Assumes nothing.
-use Rattle.std.proofs.Common.{◌≡◌, ℕ, zero, suc, ◌-◌, ◌≤◌, true, false, List, [], ◌∷◌, ◌++◌, length, get_or, take, drop, replicate, sym, refl, ap, ◌∙◌, subst, arith, ltb-true}
+use Rattle.std.proofs.Common.{◌≡◌, ℕ, zero, suc, ◌-◌, ◌≤◌, true, false, List, [], ◌∷◌, ◌++◌, length, get_or, take, drop, replicate, sym, refl, ap, ◌∙◌, subst, arith, ltb-true, Ok, Err, Result}
+use Rattle.std.specs.Result.{MatchResult, IsErrAnd}
+use Rattle.std.proofs.lemmas.Result.{MatchResult-at_ok, MatchResult-at_err, err_from_is_err_and}
 use Rattle.std.proofs.lemmas.List.{length-take-le, take_at, take-append-drop}
 use Rattle.refusals.specs.declared.Question.{Question}
+use Rattle.refusals.specs.declared.Refusal.{Refusal}
 use Rattle.calculus.specs.declared.entry.Entry.{Entry}
 use Rattle.calculus.specs.declared.node.Node.{Node}
 use Rattle.calculus.specs.Forms.{empty}
@@ -15,7 +18,7 @@ use Rattle.checker.specs.Frames.{Small}
 use Rattle.checker.specs.Judging.{typed, refused, judge_term}
 use Rattle.checker.specs.Meaning.{Means}
 use Rattle.types.proofs.Laid.{laid_front}
-use Rattle.checker.specs.Checking.{Checkable, Uncheckable, counts_unfit, no_room, entry_at_fault, node_at_fault, zeros, AcceptCall, RejectCall, Exactly}
+use Rattle.checker.specs.Checking.{Checkable, Uncheckable, counts_unfit, no_room, entry_at_fault, node_at_fault, in_check, zeros, AcceptCall, RejectCall, Exactly}
 use Rattle.checker.proofs.OutcomeMeans.{judge_means}
 
 -- the type numbers of a term whose nodes are in range
@@ -173,3 +176,28 @@ same_accept nodes types count words types' scratch' {number} {n} {count'} {k} {p
     subst (λ (x : ℕ). AcceptCall nodes types count words x n k types' scratch') ep
     (subst (λ (x : ℕ). AcceptCall nodes types count words profile x k types' scratch') (sym en)
     (subst (λ (x : ℕ). AcceptCall nodes types count words profile number x types' scratch') (sym ek) a))
+
+-- of a result whose question became a refusal: the question of a refusal, and what an answer says
+module _ {A : Type 0} (P : A → Type 0) (Q : Question → Type 0) where
+  pub asked : (r : Result A Question) (s : Result A Refusal) (e : Refusal)
+      → MatchResult r (λ x. s ≡ Ok x) (λ q. IsErrAnd s (λ d. d ≡ in_check q)) → MatchResult r P Q → s ≡ Err e
+      → (q : Question) × (e ≡ in_check q) × Q q
+  asked (Ok x) s e m h i =
+      let f = MatchResult-at_ok {r = Ok x} (λ y. s ≡ Ok y) (λ q. IsErrAnd s (λ d. d ≡ in_check q)) x refl m in
+      absurd (let z : ⊥ = cc in z)
+  asked (Err q) s e m h i =
+      let f = err_from_is_err_and s (MatchResult-at_err {r = Err q} (λ y. s ≡ Ok y) (λ k. IsErrAnd s (λ d. d ≡ in_check k)) q refl m) in
+      let j = f.1 in
+      let z : e ≡ f.0 = cc in
+      (q, z ∙ f.2, MatchResult-at_err {r = Err q} P Q q refl h)
+
+  pub answered : (r : Result A Question) (s : Result A Refusal) (y : A)
+      → MatchResult r (λ x. s ≡ Ok x) (λ q. IsErrAnd s (λ d. d ≡ in_check q)) → MatchResult r P Q → s ≡ Ok y → P y
+  answered (Ok x) s y m h i =
+      let f = MatchResult-at_ok {r = Ok x} (λ y. s ≡ Ok y) (λ q. IsErrAnd s (λ d. d ≡ in_check q)) x refl m in
+      let z : x ≡ y = cc in
+      subst P z (MatchResult-at_ok {r = Ok x} P Q x refl h)
+  answered (Err q) s y m h i =
+      let f = err_from_is_err_and s (MatchResult-at_err {r = Err q} (λ y. s ≡ Ok y) (λ k. IsErrAnd s (λ d. d ≡ in_check k)) q refl m) in
+      let j = f.1 in
+      absurd (let z : ⊥ = cc in z)

@@ -1,32 +1,32 @@
 -- What keeps the whole's outcome also lets the machine go on, and brings it nearer to its end. Assumes nothing.
-use Rattle.std.proofs.Common.{◌≡◌, ℕ, suc, ◌+◌, ◌-◌, ◌*◌, ◌^◌, ◌<◌, ◌≤◌, true, List, [], ◌∷◌, length, take, is_some, Some, None, Option, sym, refl, ap, subst, arith}
+use Rattle.std.proofs.Common.{◌≡◌, ℕ, suc, ◌+◌, ◌-◌, ◌*◌, ◌^◌, ◌<◌, ◌≤◌, true, List, [], ◌∷◌, length, take, is_some, Some, None, Option, sym, refl, ap, subst, arith, Ok, Err, Result}
 use Rattle.std.proofs.lemmas.List.{length-take-le}
+use Rattle.refusals.specs.declared.Question.{Question}
 use Rattle.calculus.specs.declared.entry.Entry.{Entry}
 use Rattle.calculus.specs.declared.node.Node.{Node}
 use Rattle.calculus.specs.Kinds.{arity}
 use Rattle.checker.specs.declared.frame.Frame.{Frame}
 use Rattle.checker.specs.declared.machine.Finished.{Finished}
 use Rattle.checker.specs.declared.machine.State.{State}
-use Rattle.checker.specs.declared.machine.Turn.TheVariants.{Go}
 use Rattle.checker.specs.declared.rules.Arrival.{Arrival}
-use Rattle.checker.specs.declared.rules.Arrival.TheVariants.{Known, Waits, Barred}
+use Rattle.checker.specs.declared.rules.Arrival.TheVariants.{Known, Waits}
 use Rattle.checker.specs.declared.rules.Reaction.{Reaction}
-use Rattle.checker.specs.declared.rules.Reaction.TheVariants.{Done, Build, Next, Reject}
+use Rattle.checker.specs.declared.rules.Reaction.TheVariants.{Done, Build, Next}
 use Rattle.checker.specs.Frames.{kept_of, frame_at, stack, context, bind}
 use Rattle.checker.specs.Rules.{arrive, child_of}
 use Rattle.checker.specs.Trees.{Tree, tree, trees_onto}
 use Rattle.checker.specs.Judging.{Outcome}
-use Rattle.checker.specs.Machine.{node_at, Step, go, halt, reach_by, take_by, reaction_of, stepped, step_after, KeptFits, ReachReady, TakeReady, ReadyBy, Ready}
+use Rattle.checker.specs.Machine.{node_at, Step, go, halt, reach_by, take_by, reaction_of, stepped, state_of, KeptFits, ReachReady, TakeReady, ReadyBy, Ready}
 use Rattle.checker.proofs.Binders.{length_context}
 use Rattle.checker.proofs.Fits.{ReactionFits}
 use Rattle.checker.proofs.Stacks.{stack_step, length_stack}
 use Rattle.checker.proofs.Tracks.{Pending, plain, plains, binders, after, Down, Up, Good, headed, up_fits, good_reached, good_taken}
 
-kept_fits : (v : Reaction) (ar k C : ℕ) → C < 2 ^ 16 → ReactionFits v ar k C → KeptFits v
-kept_fits (Done ty) ar k C h f = tt
-kept_fits (Build x) ar k C h f = tt
-kept_fits (Next a b) ar k C h f = omega (arith, f.2)
-kept_fits (Reject q) ar k C h f = tt
+kept_fits : (v : Result Reaction Question) (ar k C : ℕ) → C < 2 ^ 16 → ReactionFits v ar k C → KeptFits v
+kept_fits (Ok (Done ty)) ar k C h f = tt
+kept_fits (Ok (Build x)) ar k C h f = tt
+kept_fits (Ok (Next a b)) ar k C h f = omega (arith, f.2)
+kept_fits (Err q) ar k C h f = tt
 
 length_plains : (K : List Pending) → length (plains K) ≡ length K
 length_plains [] = refl
@@ -114,7 +114,7 @@ module _ (profile : ℕ) (N : List Node) (C : ℕ) (o : Outcome) (ts : List Entr
                 (up_fits profile N C o s.at f K T x d));
           }
 
-  pub ready : Good profile N C o (step_after (Go s) w B ts) → Ready profile N ts w B s
+  pub ready : Good profile N C o (state_of s w B ts) → Ready profile N ts w B s
   ready g = record { counts = ct; by = by s.done g }
     where
       by : (d : Option Finished) → Good profile N C o (state d) → ReadyBy profile N ts w B s d
@@ -133,18 +133,18 @@ left N (go q F Γ T None) = 3 * (length N - q) + length F + 1
 left N (go q F Γ T (Some x)) = 3 * (length N - q) + length F + 2
 left N (halt o) = 0
 
-less_reach : (N : List Node) (q : ℕ) (F : List Frame) (Γ : List ℕ) (T : List Entry) (v : Arrival) → q < length N
+less_reach : (N : List Node) (q : ℕ) (F : List Frame) (Γ : List ℕ) (T : List Entry) (v : Result Arrival Question) → q < length N
     → left N (reach_by q F Γ T v) < 3 * (length N - q) + length F + 1
-less_reach N q F Γ T (Known ty) h = omega arith
-less_reach N q F Γ T (Waits b) h = omega arith
-less_reach N q F Γ T (Barred x) h = omega arith
+less_reach N q F Γ T (Ok (Known ty)) h = omega arith
+less_reach N q F Γ T (Ok (Waits b)) h = omega arith
+less_reach N q F Γ T (Err x) h = omega arith
 
-less_take : (N : List Node) (q : ℕ) (f : Frame) (F : List Frame) (Γ : List ℕ) (T : List Entry) (v : Reaction)
+less_take : (N : List Node) (q : ℕ) (f : Frame) (F : List Frame) (Γ : List ℕ) (T : List Entry) (v : Result Reaction Question)
     → left N (take_by q f F Γ T v) < 3 * (length N - q) + suc (length F) + 2
-less_take N q f F Γ T (Done ty) = omega arith
-less_take N q f F Γ T (Build x) = omega arith
-less_take N q f F Γ T (Next a b) = omega arith
-less_take N q f F Γ T (Reject x) = omega arith
+less_take N q f F Γ T (Ok (Done ty)) = omega arith
+less_take N q f F Γ T (Ok (Build x)) = omega arith
+less_take N q f F Γ T (Ok (Next a b)) = omega arith
+less_take N q f F Γ T (Err x) = omega arith
 
 pub falls : (profile : ℕ) (N : List Node) (C : ℕ) (o : Outcome) (q : ℕ) (F : List Frame) (Γ : List ℕ) (T : List Entry) (d : Option Finished)
     → Good profile N C o (go q F Γ T d) → left N (stepped profile N (go q F Γ T d)) < left N (go q F Γ T d)
@@ -154,3 +154,11 @@ falls profile N C o q F Γ T None g = less_reach N q F Γ T (arrive profile (nod
     inside (tree n us) d = (headed N q n (trees_onto us (after g.0)) d.ahead).lt
 falls profile N C o q [] Γ T (Some x) g = omega arith
 falls profile N C o q (f ∷ F) Γ T (Some x) g = less_take N q f F _ T (reaction_of profile N f T x)
+
+-- the same of what a turn of the code came to
+module _ (profile : ℕ) (N : List Node) (C : ℕ) (o : Outcome) (s : State) (w B : List ℕ) (ts : List Entry) (x : Step) (e : x ≡ stepped profile N (state_of s w B ts)) where
+  pub good_turn : Good profile N C o (state_of s w B ts) → Good profile N C o x
+  good_turn g = subst (Good profile N C o) (sym e) (good_step profile N C o _ _ _ _ s.done g)
+
+  pub left_turn : Good profile N C o (state_of s w B ts) → left N x < left N (state_of s w B ts)
+  left_turn g = subst (λ (y : Step). left N y < left N (state_of s w B ts)) (sym e) (falls profile N C o _ _ _ _ s.done g)

@@ -1,5 +1,5 @@
 -- What one turn of the code comes to, as a turn of the machine on lists. Assumes nothing.
-use Rattle.std.proofs.Common.{◌≡◌, ℕ, ◌+◌, ◌-◌, ◌*◌, ◌<◌, ◌≤◌, Bool, true, false, cond, List, [], ◌∷◌, ◌++◌, length, get_or, take, drop, is_some, None, Option, sym, refl, ap, ◌∙◌, arith}
+use Rattle.std.proofs.Common.{◌≡◌, ℕ, ◌+◌, ◌-◌, ◌*◌, ◌<◌, ◌≤◌, Bool, true, false, cond, List, [], ◌∷◌, ◌++◌, length, get_or, take, drop, is_some, None, Option, sym, refl, ap, ◌∙◌, arith, Ok, Err, Result}
 use Rattle.std.proofs.lemmas.List.{get_or_default, take-append-le, take_all, length-take-le, take-take}
 use Rattle.refusals.specs.declared.Question.{Question}
 use Rattle.calculus.specs.declared.entry.Entry.{Entry}
@@ -15,7 +15,7 @@ use Rattle.checker.specs.declared.machine.Finished.{Finished}
 use Rattle.checker.specs.declared.rules.Arrival.{Arrival}
 use Rattle.checker.specs.declared.rules.Arrival.TheVariants.{Waits}
 use Rattle.checker.specs.declared.rules.Reaction.{Reaction}
-use Rattle.checker.specs.declared.rules.Reaction.TheVariants.{Done, Build, Next, Reject}
+use Rattle.checker.specs.declared.rules.Reaction.TheVariants.{Done, Build, Next}
 use Rattle.checker.specs.Frames.{frame, stack, put_frame_lem, context, bind}
 use Rattle.checker.specs.Rules.{arrive, react}
 use Rattle.checker.specs.Judging.{refused}
@@ -27,12 +27,12 @@ read_node : (N : List Node) (i : ℕ) (n : Node) → i < length N → n ≡ get_
 read_node N i n h e = e ∙ get_or_default N i n blank h
 
 -- what was made of a node that is reached
-pub arrived : (profile : ℕ) (N : List Node) (p : ℕ) (n : Node) (Γ : List ℕ) (v : Arrival) → p < length N → n ≡ get_or N p n
+pub arrived : (profile : ℕ) (N : List Node) (p : ℕ) (n : Node) (Γ : List ℕ) (v : Result Arrival Question) → p < length N → n ≡ get_or N p n
     → v ≡ arrive profile n.kind n.number p Γ → v ≡ arrive profile (node_at N p).kind (node_at N p).number p Γ
 arrived profile N p n Γ v h e q = q ∙ ap (λ (m : Node). arrive profile m.kind m.number p Γ) (read_node N p n h e)
 
-pub waits_step : (p d b : ℕ) (w w' B : List ℕ) (Γ : List ℕ) (T : List Entry) (o : Option ℕ) (s : Bool) (v : Arrival)
-    → s ≡ is_some o → w' ≡ put_frame_lem w d (frame p First s) → 3 * d + 3 ≤ length w → context B b ≡ bind o Γ → Waits o ≡ v
+pub waits_step : (p d b : ℕ) (w w' B : List ℕ) (Γ : List ℕ) (T : List Entry) (o : Option ℕ) (s : Bool) (v : Result Arrival Question)
+    → s ≡ is_some o → w' ≡ put_frame_lem w d (frame p First s) → 3 * d + 3 ≤ length w → context B b ≡ bind o Γ → Ok (Waits o) ≡ v
     → go (p + 1) (stack w' (d + 1)) (context B b) T None ≡ reach_by p (stack w d) Γ T v
 waits_step p d b w w' B Γ T o s v es ew h eb ev =
     let a : stack w' (d + 1) ≡ frame p First (is_some o) ∷ stack w d
@@ -41,7 +41,7 @@ waits_step p d b w w' B Γ T o s v es ew h eb ev =
     ∙ ap (λ Δ. go (p + 1) (frame p First (is_some o) ∷ stack w d) Δ T None) eb
     ∙ ap (reach_by p (stack w d) Γ T) ev
 
-pub reacted : (profile : ℕ) (N : List Node) (ts : List Entry) (count : ℕ) (x : Finished) (f g : Frame) (n m : Node) (v : Reaction)
+pub reacted : (profile : ℕ) (N : List Node) (ts : List Entry) (count : ℕ) (x : Finished) (f g : Frame) (n m : Node) (v : Result Reaction Question)
     → f ≡ g → f.place < length N → x.place < length N → n ≡ get_or N f.place n
     → v ≡ react profile n.kind n.number f.place f.awaits (take (count - 0) ts) x.ty (get_or N x.place m).kind
     → v ≡ reaction_of profile N g (take count ts) x
@@ -53,14 +53,14 @@ reacted profile N ts count x f g n m v ef hf hx en ev =
     ∙ ap (λ (u : Node). react profile (node_at N f.place).kind (node_at N f.place).number f.place f.awaits (take count ts) x.ty u.kind) (get_or_default N x.place m blank hx)
     ∙ ap (λ (h : Frame). reaction_of profile N h (take count ts) x) ef
 
-module _ (p : ℕ) (w w' : List ℕ) (f g : Frame) (Γ Δ : List ℕ) (T : List Entry) (v : Reaction) (ef : f ≡ g) where
-  pub done_step : (top ty : ℕ) → Γ ≡ Δ → Done ty ≡ v → go p (stack w top) Γ T (finished ty f.place) ≡ take_by p g (stack w top) Δ T v
+module _ (p : ℕ) (w w' : List ℕ) (f g : Frame) (Γ Δ : List ℕ) (T : List Entry) (v : Result Reaction Question) (ef : f ≡ g) where
+  pub done_step : (top ty : ℕ) → Γ ≡ Δ → Ok (Done ty) ≡ v → go p (stack w top) Γ T (finished ty f.place) ≡ take_by p g (stack w top) Δ T v
   done_step top ty eΓ ev =
       ap (λ Θ. go p (stack w top) Θ T (finished ty f.place)) eΓ
       ∙ ap (λ (h : Frame). go p (stack w top) Δ T (finished ty h.place)) ef
       ∙ ap (take_by p g (stack w top) Δ T) ev
 
-  pub build_step : (top ty : ℕ) (x : Entry) (U : List Entry) → Γ ≡ Δ → ty ≡ index_of x T → U ≡ with_entry T x → Build x ≡ v
+  pub build_step : (top ty : ℕ) (x : Entry) (U : List Entry) → Γ ≡ Δ → ty ≡ index_of x T → U ≡ with_entry T x → Ok (Build x) ≡ v
       → go p (stack w top) Γ U (finished ty f.place) ≡ take_by p g (stack w top) Δ T v
   build_step top ty x U eΓ et eU ev =
       ap (λ Θ. go p (stack w top) Θ U (finished ty f.place)) eΓ
@@ -70,7 +70,7 @@ module _ (p : ℕ) (w w' : List ℕ) (f g : Frame) (Γ Δ : List ℕ) (T : List 
       ∙ ap (take_by p g (stack w top) Δ T) ev
 
   pub next_step : (d : ℕ) (a : Awaits) (o : Option ℕ) (s : Bool) → 0 < d → 3 * d ≤ length w → s ≡ is_some o
-      → w' ≡ put_frame_lem w (d - 1) (frame f.place a s) → Γ ≡ bind o Δ → Next a o ≡ v
+      → w' ≡ put_frame_lem w (d - 1) (frame f.place a s) → Γ ≡ bind o Δ → Ok (Next a o) ≡ v
       → go p (stack w' d) Γ T None ≡ take_by p g (stack w (d - 1)) Δ T v
   next_step d a o s h l es ew eΓ ev =
       let z : d ≡ d - 1 + 1 = omega arith in
@@ -81,7 +81,7 @@ module _ (p : ℕ) (w w' : List ℕ) (f g : Frame) (Γ Δ : List ℕ) (T : List 
       ∙ ap (λ Θ. go p (frame g.place a (is_some o) ∷ stack w (d - 1)) Θ T None) eΓ
       ∙ ap (take_by p g (stack w (d - 1)) Δ T) ev
 
-  pub reject_step : (q : Question) (F : List Frame) → Reject q ≡ v → halt (refused q) ≡ take_by p g F Δ T v
+  pub reject_step : (q : Question) (F : List Frame) → Err q ≡ v → halt (refused q) ≡ take_by p g F Δ T v
   reject_step q F ev = ap (take_by p g F Δ T) ev
 
 pub same_keeps : (n : ℕ) (ts : List Entry) → n ≤ length ts → Keeps n n ts ts

@@ -5,15 +5,18 @@
 --   reach_by, reached   what reaching a node comes to
 --   take_by, reaction_of, taken   what finishing a node comes to
 --   stepped       one turn
---   step_after    what a turn of the code came to, by the numbers that hold its frames and binders
+--   state_of      a state of the code, by the numbers that hold its frames and binders
+--   state_after, step_after   what the code went on to, or its end
 --   outcome_of    the outcome that an answer of the code stands for
---   count_after   the count of entries after a turn
+--   count_or, count_after   the count of entries after a turn
 --   Keeps         a type table with c entries becomes one with d, of which the first c are the same
 --   KeptFits      the type that a frame is to keep has 16 bits
 --   ReachReady, TakeReady, Ready   what a turn needs
 --   Input         what the machine is given: a rule, a table with its count, and numbers for frames and binders
 -- Assumes nothing.
 use Rattle.std.specs.Prelude.{◌≡◌, ℕ, ◌+◌, ◌-◌, ◌*◌, ◌^◌, ◌<◌, ◌≤◌, true, List, [], ◌∷◌, length, take, is_some, Some, None, Ok, Err, Option, Result, slice_index_or}
+use Rattle.std.specs.declared.ops.ControlFlow.{ControlFlow}
+use Rattle.std.specs.declared.ops.ControlFlow.TheVariants.{Continue, Break}
 use Rattle.refusals.specs.declared.Question.{Question}
 use Rattle.calculus.specs.declared.entry.Entry.{Entry}
 use Rattle.calculus.specs.declared.node.Node.{Node}
@@ -25,12 +28,10 @@ use Rattle.checker.specs.declared.frame.Awaits.TheVariants.{First}
 use Rattle.checker.specs.declared.frame.Frame.{Frame}
 use Rattle.checker.specs.declared.machine.Finished.{Finished}
 use Rattle.checker.specs.declared.machine.State.{State}
-use Rattle.checker.specs.declared.machine.Turn.{Turn}
-use Rattle.checker.specs.declared.machine.Turn.TheVariants.{Go, Accept, Refuse}
 use Rattle.checker.specs.declared.rules.Arrival.{Arrival}
-use Rattle.checker.specs.declared.rules.Arrival.TheVariants.{Known, Waits, Barred}
+use Rattle.checker.specs.declared.rules.Arrival.TheVariants.{Known, Waits}
 use Rattle.checker.specs.declared.rules.Reaction.{Reaction}
-use Rattle.checker.specs.declared.rules.Reaction.TheVariants.{Done, Build, Next, Reject}
+use Rattle.checker.specs.declared.rules.Reaction.TheVariants.{Done, Build, Next}
 use Rattle.checker.specs.Frames.{kept_of, frame, frame_at, stack, context, bind, unbind}
 use Rattle.checker.specs.Rules.{arrive, react}
 use Rattle.checker.specs.Judging.{Outcome, typed, refused}
@@ -46,22 +47,22 @@ pub data Step : Type 0 where
 abbrev pub finished : ℕ → ℕ → Option Finished
 finished ty p = Some (record { ty = ty; place = p })
 
-abbrev pub reach_by : ℕ → List Frame → List ℕ → List Entry → Arrival → Step
-reach_by p F Γ T (Known ty) = go (p + 1) F Γ T (finished ty p)
-reach_by p F Γ T (Waits b) = go (p + 1) (frame p First (is_some b) ∷ F) (bind b Γ) T None
-reach_by p F Γ T (Barred q) = halt (refused q)
+abbrev pub reach_by : ℕ → List Frame → List ℕ → List Entry → Result Arrival Question → Step
+reach_by p F Γ T (Ok (Known ty)) = go (p + 1) F Γ T (finished ty p)
+reach_by p F Γ T (Ok (Waits b)) = go (p + 1) (frame p First (is_some b) ∷ F) (bind b Γ) T None
+reach_by p F Γ T (Err q) = halt (refused q)
 
 abbrev pub reached : ℕ → List Node → ℕ → List Frame → List ℕ → List Entry → Step
 reached profile N p F Γ T = reach_by p F Γ T (arrive profile (node_at N p).kind (node_at N p).number p Γ)
 
 -- Γ is the context around the node of the frame f
-abbrev pub take_by : ℕ → Frame → List Frame → List ℕ → List Entry → Reaction → Step
-take_by p f F Γ T (Done ty) = go p F Γ T (finished ty f.place)
-take_by p f F Γ T (Build x) = go p F Γ (with_entry T x) (finished (index_of x T) f.place)
-take_by p f F Γ T (Next a b) = go p (frame f.place a (is_some b) ∷ F) (bind b Γ) T None
-take_by p f F Γ T (Reject q) = halt (refused q)
+abbrev pub take_by : ℕ → Frame → List Frame → List ℕ → List Entry → Result Reaction Question → Step
+take_by p f F Γ T (Ok (Done ty)) = go p F Γ T (finished ty f.place)
+take_by p f F Γ T (Ok (Build x)) = go p F Γ (with_entry T x) (finished (index_of x T) f.place)
+take_by p f F Γ T (Ok (Next a b)) = go p (frame f.place a (is_some b) ∷ F) (bind b Γ) T None
+take_by p f F Γ T (Err q) = halt (refused q)
 
-abbrev pub reaction_of : ℕ → List Node → Frame → List Entry → Finished → Reaction
+abbrev pub reaction_of : ℕ → List Node → Frame → List Entry → Finished → Result Reaction Question
 reaction_of profile N f T x =
     react profile (node_at N f.place).kind (node_at N f.place).number f.place f.awaits T x.ty
     (node_at N x.place).kind
@@ -75,19 +76,32 @@ stepped profile N (go p F Γ T None) = reached profile N p F Γ T
 stepped profile N (go p F Γ T (Some x)) = taken profile N p F Γ T x
 stepped profile N (halt o) = halt o
 
-abbrev pub step_after : Turn → List ℕ → List ℕ → List Entry → Step
-step_after (Go s) w B ts = go s.at (stack w s.depth) (context B s.bound) (take s.count ts) s.done
-step_after (Accept ty c) w B ts = halt (typed ty (take c ts))
-step_after (Refuse q) w B ts = halt (refused q)
+-- a state of the code, by the numbers that hold its frames and binders
+abbrev pub state_of : State → List ℕ → List ℕ → List Entry → Step
+state_of s w B ts = go s.at (stack w s.depth) (context B s.bound) (take s.count ts) s.done
+
+abbrev pub state_after : Result State Question → List ℕ → List ℕ → List Entry → Step
+state_after (Ok s) w B ts = state_of s w B ts
+state_after (Err q) w B ts = halt (refused q)
+
+abbrev pub step_after : Result (ControlFlow (ℕ × ℕ) State) Question → List ℕ → List ℕ → List Entry → Step
+step_after (Ok (Continue s)) w B ts = state_of s w B ts
+step_after (Ok (Break a)) w B ts = halt (typed a.0 (take a.1 ts))
+step_after (Err q) w B ts = halt (refused q)
 
 abbrev pub outcome_of : Result (ℕ × ℕ) Question → List Entry → Outcome
 outcome_of (Ok a) ts = typed a.0 (take a.1 ts)
 outcome_of (Err q) ts = refused q
 
-abbrev pub count_after : State → Turn → ℕ
-count_after s (Go s') = s'.count
-count_after s (Accept ty c) = c
-count_after s (Refuse q) = s.count
+-- the count of entries after a turn, or c where it refuses
+abbrev pub count_or : ℕ → Result State Question → ℕ
+count_or c (Ok s) = s.count
+count_or c (Err q) = c
+
+abbrev pub count_after : ℕ → Result (ControlFlow (ℕ × ℕ) State) Question → ℕ
+count_after c (Ok (Continue s)) = s.count
+count_after c (Ok (Break a)) = a.1
+count_after c (Err q) = c
 
 pub record Keeps (c d : ℕ) (ts us : List Entry) : Type 0 where
   pub low : c ≤ d
@@ -100,11 +114,11 @@ pub record ReachReady (N : List Node) (w B : List ℕ) (s : State) : Type 0 wher
   pub room : 3 * s.depth + 3 ≤ length w
   pub slot : s.bound < length B
 
-abbrev pub KeptFits : Reaction → Type 0
-KeptFits (Done ty) = Unit {0}
-KeptFits (Build x) = Unit {0}
-KeptFits (Next a b) = kept_of a < 2 ^ 16
-KeptFits (Reject q) = Unit {0}
+abbrev pub KeptFits : Result Reaction Question → Type 0
+KeptFits (Ok (Done ty)) = Unit {0}
+KeptFits (Ok (Build x)) = Unit {0}
+KeptFits (Ok (Next a b)) = kept_of a < 2 ^ 16
+KeptFits (Err q) = Unit {0}
 
 pub record TakeReady (profile : ℕ) (N : List Node) (ts : List Entry) (w B : List ℕ) (s : State) (x : Finished) : Type 0 where
   pub deep : 0 < s.depth

@@ -57,7 +57,8 @@ fn awaited(code: u32, kept: u16) -> Awaits
 
 // The frame number i from the bottom.
 pub fn frame_at(words: &[u32], i: usize) -> Frame
-    requires { (3 * i + 3 ≤ length words.now) × (Small words.now) }
+    requires within { 3 * i + 3 ≤ length words.now }
+    requires small { Small words.now }
     ensures value { result ≡ frame_at words.now i }
 {
     let code = words[3 * i + 1];
@@ -85,16 +86,17 @@ pub fn put_frame(words: &mut [u32], i: usize, frame: Frame)
 {
     let code = code(frame.awaits, frame.bound);
     let kept = kept(frame.awaits);
-    put_words(words, i, frame.place as u32, code, kept as u32);
+    put_words(words, i, u32::from(frame.place), code, u32::from(kept));
 }
 
 // The type of the variable with this index, where the first `bound` numbers are the types of the binders around it, the
 // innermost last.
 pub fn binder_type(binders: &[u32], bound: usize, index: u16) -> Option<u16>
-    requires { (bound ≤ length binders.now) × (Small binders.now) }
+    requires within { bound ≤ length binders.now }
+    requires small { Small binders.now }
     ensures value { result ≡ slice_get (context binders.now bound) index }
 {
-    let outward = index as usize;
+    let outward = usize::from(index);
     if outward < bound {
         Some(binders[bound - 1 - outward] as u16)
     } else {
@@ -104,14 +106,15 @@ pub fn binder_type(binders: &[u32], bound: usize, index: u16) -> Option<u16>
 
 // Puts a binder, if there is one, inside those that are there, and says how many there are then.
 pub fn push_binder(binders: &mut [u32], bound: usize, binder: Option<u16>) -> usize
-    requires { (bound < length binders.old) × (Small binders.old) }
+    requires room { bound < length binders.old }
+    requires small { Small binders.old }
     ensures context { context binders.new result ≡ bind binder (context binders.old bound) }
     ensures small { Small binders.new }
 {
     match binder {
         None => bound,
         Some(number) => {
-            binders[bound] = number as u32;
+            binders[bound] = u32::from(number);
             bound + 1
         }
     }

@@ -2,16 +2,16 @@
 ghost use Rattle.std.specs.Prelude.{◌≡◌, ◌-◌, ◌≤◌, List, length, take, IfOk};
 ghost use Rattle.calculus.specs.declared.entry.Entry.{Entry as Row};
 ghost use Rattle.calculus.specs.Syntax.{Term, flat};
-ghost use Rattle.checker.specs.declared.machine.Turn.TheVariants.{Go};
 ghost use Rattle.checker.specs.Frames.{Small, frame_at, stack, context, unbind};
 ghost use Rattle.checker.specs.Judging.{judge_term};
-ghost use Rattle.checker.specs.Machine.{Input, Keeps, count_after, reached, take_by, reaction_of, step_after, outcome_of, ReachReady, TakeReady, Ready, stepped};
+ghost use Rattle.checker.specs.Machine.{Input, Keeps, count_or, count_after, reached, take_by, reaction_of, state_of, state_after, step_after, outcome_of, ReachReady, TakeReady, Ready, stepped};
 
 use crate::frame::{Awaits, Frame, frame_at, pop_binder, push_binder, put_frame};
-use crate::rules::{Arrival, Reaction, reach, take_child};
+use crate::rules::{Arrival, Reaction, Site};
 use calculus::entry::Entry;
 use calculus::node::Node;
 use refusals::Question;
+use std::ops::ControlFlow;
 use types::table::add;
 
 // A finished node: the number of its type, and where it stands.
@@ -32,32 +32,35 @@ pub struct State {
     pub done: Option<Finished>,
 }
 
-// What a turn comes to: another turn, the type and the count of entries, or a refusal.
-#[derive(Clone, Copy)]
-pub enum Turn {
-    Go(State),
-    Accept(u16, usize),
-    Refuse(Question),
-}
-
 // The next node is reached.
-fn descend(nodes: &[Node], profile: u32, frames: &mut [u32], binders: &mut [u32], st: State) -> Turn
+fn descend(
+    nodes: &[Node],
+    profile: u32,
+    frames: &mut [u32],
+    binders: &mut [u32],
+    st: State,
+) -> Result<State, Question>
     requires ready { ReachReady nodes.now frames.old binders.old st }
-    requires small { Small frames.old × Small binders.old }
-    ensures step { (ts : List Row) → step_after result frames.new binders.new ts ≡ reached profile nodes.now st.at (stack frames.old st.depth) (context binders.old st.bound) (take st.count ts) }
-    ensures small { Small frames.new × Small binders.new }
-    ensures count { count_after st result ≡ st.count }
+    requires small_frames { Small frames.old }
+    requires small_binders { Small binders.old }
+    ensures step { (ts : List Row) → state_after result frames.new binders.new ts ≡ reached profile nodes.now st.at (stack frames.old st.depth) (context binders.old st.bound) (take st.count ts) }
+    ensures small_frames { Small frames.new }
+    ensures small_binders { Small binders.new }
+    ensures count { IfOk result (λ s. s.count ≡ st.count) }
 {
-    let node = nodes[st.at as usize];
-    match reach(profile, node, st.at, binders, st.bound) {
-        Arrival::Known(ty) => Turn::Go(State {
+    let site = Site {
+        profile,
+        node: nodes[usize::from(st.at)],
+        place: st.at,
+    };
+    match site.reach(binders, st.bound)? {
+        Arrival::Known(ty) => Ok(State {
             at: st.at + 1,
             depth: st.depth,
             bound: st.bound,
             count: st.count,
             done: Some(Finished { ty, place: st.at }),
         }),
-        Arrival::Barred(question) => Turn::Refuse(question),
         Arrival::Waits(binder) => {
             let frame = Frame {
                 place: st.at,
@@ -66,7 +69,7 @@ fn descend(nodes: &[Node], profile: u32, frames: &mut [u32], binders: &mut [u32]
             };
             put_frame(frames, st.depth, frame);
             let bound = push_binder(binders, st.bound, binder);
-            Turn::Go(State {
+            Ok(State {
                 at: st.at + 1,
                 depth: st.depth + 1,
                 bound,
@@ -86,22 +89,28 @@ fn ascend(
     binders: &mut [u32],
     st: State,
     x: Finished,
-) -> Turn
+) -> Result<State, Question>
     requires ready { TakeReady profile nodes.now types.old frames.old binders.old st x }
-    requires small { Small frames.old × Small binders.old }
-    ensures step { step_after result frames.new binders.new types.new ≡ take_by st.at (frame_at frames.old (st.depth - 1)) (stack frames.old (st.depth - 1)) (unbind (frame_at frames.old (st.depth - 1)).bound (context binders.old st.bound)) (take st.count types.old) (reaction_of profile nodes.now (frame_at frames.old (st.depth - 1)) (take st.count types.old) x) }
-    ensures small { Small frames.new × Small binders.new }
-    ensures keeps { Keeps st.count (count_after st result) types.old types.new }
+    requires small_frames { Small frames.old }
+    requires small_binders { Small binders.old }
+    ensures step { state_after result frames.new binders.new types.new ≡ take_by st.at (frame_at frames.old (st.depth - 1)) (stack frames.old (st.depth - 1)) (unbind (frame_at frames.old (st.depth - 1)).bound (context binders.old st.bound)) (take st.count types.old) (reaction_of profile nodes.now (frame_at frames.old (st.depth - 1)) (take st.count types.old) x) }
+    ensures small_frames { Small frames.new }
+    ensures small_binders { Small binders.new }
+    ensures keeps { Keeps st.count (count_or st.count result) types.old types.new }
 {
     let top = st.depth - 1;
     let frame = frame_at(frames, top);
-    let node = nodes[frame.place as usize];
-    let head = nodes[x.place as usize].kind;
+    let site = Site {
+        profile,
+        node: nodes[usize::from(frame.place)],
+        place: frame.place,
+    };
+    let head = nodes[usize::from(x.place)].kind;
     let count = st.count;
     let bound = pop_binder(st.bound, frame.bound);
     let known = &types[0..count];
-    match take_child(profile, node, frame.place, frame.awaits, known, x.ty, head) {
-        Reaction::Done(ty) => Turn::Go(State {
+    match site.take_child(frame.awaits, known, x.ty, head)? {
+        Reaction::Done(ty) => Ok(State {
             at: st.at,
             depth: top,
             bound,
@@ -113,7 +122,7 @@ fn ascend(
         }),
         Reaction::Build(entry) => {
             let (ty, grown) = add(types, count, entry);
-            Turn::Go(State {
+            Ok(State {
                 at: st.at,
                 depth: top,
                 bound,
@@ -132,7 +141,7 @@ fn ascend(
             };
             put_frame(frames, top, next);
             let bound = push_binder(binders, bound, binder);
-            Turn::Go(State {
+            Ok(State {
                 at: st.at,
                 depth: st.depth,
                 bound,
@@ -140,11 +149,10 @@ fn ascend(
                 done: None,
             })
         }
-        Reaction::Reject(question) => Turn::Refuse(question),
     }
 }
 
-// One turn of the machine.
+// One turn of the machine: on to another state, or to an end with the type and the count of entries.
 fn turn_once(
     nodes: &[Node],
     profile: u32,
@@ -152,21 +160,20 @@ fn turn_once(
     frames: &mut [u32],
     binders: &mut [u32],
     st: State,
-) -> Turn
+) -> Result<ControlFlow<(u16, usize), State>, Question>
     requires ready { Ready profile nodes.now types.old frames.old binders.old st }
-    requires small { Small frames.old × Small binders.old }
-    ensures step { step_after result frames.new binders.new types.new ≡ stepped profile nodes.now (step_after (Go st) frames.old binders.old types.old) }
-    ensures small { Small frames.new × Small binders.new }
-    ensures keeps { Keeps st.count (count_after st result) types.old types.new }
+    requires small_frames { Small frames.old }
+    requires small_binders { Small binders.old }
+    ensures step { step_after result frames.new binders.new types.new ≡ stepped profile nodes.now (state_of st frames.old binders.old types.old) }
+    ensures small_frames { Small frames.new }
+    ensures small_binders { Small binders.new }
+    ensures keeps { Keeps st.count (count_after st.count result) types.old types.new }
 {
     match st.done {
-        None => descend(nodes, profile, frames, binders, st),
+        None => descend(nodes, profile, frames, binders, st).map(ControlFlow::Continue),
+        Some(x) if st.depth == 0 => Ok(ControlFlow::Break((x.ty, st.count))),
         Some(x) => {
-            if st.depth == 0 {
-                Turn::Accept(x.ty, st.count)
-            } else {
-                ascend(nodes, profile, types, frames, binders, st, x)
-            }
+            ascend(nodes, profile, types, frames, binders, st, x).map(ControlFlow::Continue)
         }
     }
 }
@@ -181,10 +188,12 @@ pub fn judge_nodes(
     binders: &mut [u32],
 ) -> Result<(u16, usize), Question>
     requires ready { Input nodes.now types.old count frames.old binders.old }
-    requires small { Small frames.old × Small binders.old }
+    requires small_frames { Small frames.old }
+    requires small_binders { Small binders.old }
     ensures judged { (t : Term) → flat t ≡ nodes.now → outcome_of result types.new ≡ judge_term profile t (take count types.old) }
     ensures front { take count types.new ≡ take count types.old }
-    ensures within { IfOk result (λ a. (count ≤ a.1) × (a.1 ≤ length types.new)) }
+    ensures low { IfOk result (λ a. count ≤ a.1) }
+    ensures within { IfOk result (λ a. a.1 ≤ length types.new) }
 {
     let mut st = State {
         at: 0,
@@ -194,10 +203,9 @@ pub fn judge_nodes(
         done: None,
     };
     'turns: loop {
-        match turn_once(nodes, profile, types, frames, binders, st) {
-            Turn::Go(next) => st = next,
-            Turn::Accept(ty, grown) => return Ok((ty, grown)),
-            Turn::Refuse(question) => return Err(question),
+        match turn_once(nodes, profile, types, frames, binders, st)? {
+            ControlFlow::Continue(next) => st = next,
+            ControlFlow::Break(typed) => return Ok(typed),
         }
     }
 }

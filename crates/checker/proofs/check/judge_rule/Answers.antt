@@ -6,6 +6,7 @@ use Rattle.checker.proofs.check.judge_rule.Goals as goal
 pub judge_nodes-requires : goal.judge_nodes-requires
 judge_nodes-requires c =
     let filled : c.fill.new.self ≡ zeros (length c.args.scratch.now) = search rules in
+    let small = small_zeros (length c.args.scratch.now) _ _ (sym filled ∙ c.split_at_mut-frames.ensures.value) in
     record {
       ready = record {
         term = c.requires.term;
@@ -17,7 +18,8 @@ judge_nodes-requires c =
         words = omega (arith, c.split_at_mut-frames.ensures.front_len);
         slots = omega (arith, c.split_at_mut-frames.ensures.back_len, c.requires.room.1, c.fill.ensures.len);
       };
-      small = small_zeros (length c.args.scratch.now) _ _ (sym filled ∙ c.split_at_mut-frames.ensures.value);
+      small_frames = small.0;
+      small_binders = small.1;
     }
 
 pub returns-in-Ok : goal.returns-in-Ok
@@ -25,7 +27,7 @@ returns-in-Ok c =
     record {
       judged = accept_call c.args.nodes.now c.args.types.now c.args.count (length c.args.scratch.now) c.args.profile c.requires
           c.in-Ok.type_number c.in-Ok.grown c.judge_nodes.new.types c.clear.new.types c.clear.new.numbers
-          c.judge_nodes.auto.types c.in-Ok.ensures.within.1 c.in-Ok.ensures.judged c.clear.ensures.types
+          c.judge_nodes.auto.types c.in-Ok.ensures.within c.in-Ok.ensures.judged c.clear.ensures.types
           (c.clear.ensures.numbers ∙ ap zeros (search rules));
     }
 

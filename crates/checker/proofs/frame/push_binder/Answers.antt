@@ -7,7 +7,8 @@ pub returns-in-Some : goal.returns-in-Some
 returns-in-Some c =
     record {
       context =
-          context_more c.args.binders.now c.args.bound c.in-Some.number (omega arith)
-          ∙ ap (λ b. bind b (context c.args.binders.now c.args.bound)) (sym c.in-Some.is);
-      small = small_set c.args.binders.now c.args.bound c.in-Some.number (omega arith) (omega arith) c.requires.1;
+          rw c.from.ensures
+          (context_more c.args.binders.now c.args.bound c.in-Some.number (omega arith)
+          ∙ ap (λ b. bind b (context c.args.binders.now c.args.bound)) (sym c.in-Some.is));
+      small = small_set c.args.binders.now c.args.bound c.from.result (omega arith) (omega arith) c.requires.small;
     }
