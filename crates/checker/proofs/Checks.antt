@@ -1,5 +1,5 @@
 -- What the outcome of the machine says of the rule, and exactly when a rule is accepted. Assumes nothing.
-use Rattle.std.proofs.Common.{◌≡◌, ℕ, zero, suc, ◌-◌, ◌≤◌, true, false, List, [], ◌∷◌, ◌++◌, length, get_or, take, drop, replicate, sym, refl, ap, ◌∙◌, subst, arith, ltb-true, Ok, Err, Result}
+use Rattle.std.proofs.Common.{◌≡◌, ℕ, suc, ◌-◌, ◌≤◌, true, false, List, [], ◌++◌, length, take, drop, replicate, sym, refl, ap, ◌∙◌, subst, arith, ltb-true, Ok, Err, Result}
 use Rattle.std.specs.Result.{MatchResult, IsErrAnd}
 use Rattle.std.proofs.lemmas.Result.{MatchResult-at_ok, MatchResult-at_err, err_from_is_err_and}
 use Rattle.std.proofs.lemmas.List.{length-take-le, take_at, take-append-drop}
@@ -14,7 +14,6 @@ use Rattle.calculus.specs.Typing.{Typed, TypesBelow}
 use Rattle.calculus.specs.Accepted.{Accepted}
 use Rattle.calculus.proofs.Reading.{read_once}
 use Rattle.terms.specs.Ranges.{AllInRange}
-use Rattle.checker.specs.Frames.{Small}
 use Rattle.checker.specs.Judging.{typed, refused, judge_term}
 use Rattle.checker.specs.Meaning.{Means}
 use Rattle.types.proofs.Laid.{laid_front}
@@ -134,26 +133,6 @@ module _ (nodes : List Node) (types : List Entry) (count words profile : ℕ) wh
   pub accepted_rule : (number count' : ℕ) (types' : List Entry) (scratch' : List ℕ) → AcceptCall nodes types count words profile number count' types' scratch'
       → ∥ ((t : Term) × (flat t ≡ nodes) × Accepted t number profile) ∥₁
   accepted_rule number count' types' scratch' a = ∣ (a.rule, a.is, ∣ (a.left, a.accepts.accepted) ∣₁) ∣₁
-
--- parts of a list of zeros are small
-small_zeros_at : (n i : ℕ) → get_or (zeros n) i 0 ≡ 0
-small_zeros_at zero i = refl
-small_zeros_at (suc n) zero = refl
-small_zeros_at (suc n) (suc i) = small_zeros_at n i
-
-get_or_front : (xs ys : List ℕ) (i : ℕ) → ((j : ℕ) → get_or (xs ++ ys) j 0 ≡ 0) → get_or xs i 0 ≡ 0
-get_or_front [] ys i z = refl
-get_or_front (x ∷ xs) ys zero z = z 0
-get_or_front (x ∷ xs) ys (suc i) z = get_or_front xs ys i (λ j. z (suc j))
-
-get_or_back : (xs ys : List ℕ) (i : ℕ) → ((j : ℕ) → get_or (xs ++ ys) j 0 ≡ 0) → get_or ys i 0 ≡ 0
-get_or_back [] ys i z = z i
-get_or_back (x ∷ xs) ys i z = get_or_back xs ys i (λ j. z (suc j))
-
-pub small_zeros : (n : ℕ) (xs ys : List ℕ) → zeros n ≡ xs ++ ys → Small xs × Small ys
-small_zeros n xs ys e =
-    let z : (j : ℕ) → get_or (xs ++ ys) j 0 ≡ 0 = λ j. ap (λ l. get_or l j 0) (sym e) ∙ small_zeros_at n j in
-    (λ i. omega (arith, get_or_front xs ys i z), λ i. omega (arith, get_or_back xs ys i z))
 
 -- a rule that does not pass 10 to 13 is no rule past them
 pub exactly_unchecked : (nodes : List Node) (types : List Entry) (count words profile : ℕ) (q : Question) (left : List Entry)

@@ -21,7 +21,7 @@ use Rattle.checker.specs.declared.rules.Arrival.{Arrival}
 use Rattle.checker.specs.declared.rules.Arrival.TheVariants.{Known, Waits}
 use Rattle.checker.specs.declared.rules.Reaction.{Reaction}
 use Rattle.checker.specs.declared.rules.Reaction.TheVariants.{Done, Build, Next}
-use Rattle.checker.specs.Frames.{kept_of}
+use Rattle.checker.specs.Awaiting.{kept_of}
 use Rattle.checker.specs.Rules.{answer_number_lem, answer_type, known_by, asked_by, arrive, has_form, answered_by, first, second, third, child_of, react}
 
 abbrev pub BinderIn : Option ℕ → ℕ → Type 0

@@ -1,4 +1,4 @@
-pub mod Binders
+pub mod Contexts
 pub mod Stacks
 pub mod Turns
 pub mod Fits

@@ -16,12 +16,13 @@ use Rattle.checker.specs.declared.rules.Arrival.{Arrival}
 use Rattle.checker.specs.declared.rules.Arrival.TheVariants.{Known, Waits}
 use Rattle.checker.specs.declared.rules.Reaction.{Reaction}
 use Rattle.checker.specs.declared.rules.Reaction.TheVariants.{Done, Build, Next}
-use Rattle.checker.specs.Frames.{kept_of, frame, bind}
+use Rattle.checker.specs.Awaiting.{kept_of, frame}
+use Rattle.checker.specs.Contexts.{bind}
 use Rattle.checker.specs.Rules.{arrive, child_of, react}
 use Rattle.checker.specs.Trees.{Tree, tree, Trees, none, more, tree_onto, trees_onto, tree_size, trees_size, many, Whole, Wholes, root}
 use Rattle.checker.specs.Judging.{Outcome, typed, refused, on_outcome, on_arrival, on_reaction, settle, judge, children}
 use Rattle.checker.specs.Machine.{node_at, Step, go, halt, reach_by, reached, take_by, reaction_of, taken}
-use Rattle.checker.proofs.Binders.{unbound}
+use Rattle.checker.proofs.Contexts.{unbound}
 use Rattle.checker.proofs.Fits.{BinderIn, AllIn, ArrivalFits, ReactionFits, NumberIn, number_up, binder_up, PartsIn, react_fits, arrive_fits, parts_with}
 
 -- a frame with the children that are still to come
@@ -168,12 +169,6 @@ module _ (profile : ℕ) (N : List Node) (C : ℕ) (o : Outcome) where
       let s = d.base.sounds.0 in
       react_fits profile f.n.kind f.n.number f.p f.a T x.ty (node_at N x.place).kind (omega (arith, d.base.given, d.base.low))
       (number_at N C (length T) f.p f.n d.base.low s.within s.here d.base.numbers) d.base.parts s.keeps d.known
-
-  pub up_fits : (q : ℕ) (f : Pending) (K : List Pending) (T : List Entry) (x : Finished) → Up profile N C o q (f ∷ K) T x
-      → ReactionFits (reaction_of profile N (plain f) T x) (arity f.n.kind) (child_of f.a) (length T)
-  up_fits q f K T x d =
-      subst (λ (m : Node). ReactionFits (react profile m.kind m.number f.p f.a T x.ty (node_at N x.place).kind) (arity f.n.kind) (child_of f.a) (length T))
-      (sym d.base.sounds.0.here) (frame_fits q f K T x d)
 
   reach_good : (q : ℕ) (K : List Pending) (T : List Entry) (n : Node) (ts : Trees) (v : Result Arrival Question)
       → Base N C q K T → length T + length K ≤ C + q → Head N q n (trees_onto ts (after K)) → arity n.kind ≡ many ts → Wholes ts

@@ -1,26 +1,19 @@
 -- What one turn of the code comes to, as a turn of the machine on lists. Assumes nothing.
-use Rattle.std.proofs.Common.{◌≡◌, ℕ, ◌+◌, ◌-◌, ◌*◌, ◌<◌, ◌≤◌, Bool, true, false, cond, List, [], ◌∷◌, ◌++◌, length, get_or, take, drop, is_some, None, Option, sym, refl, ap, ◌∙◌, arith, Ok, Err, Result}
+use Rattle.std.proofs.Common.{◌≡◌, ℕ, ◌-◌, ◌<◌, ◌≤◌, Bool, true, false, cond, List, [], ◌∷◌, ◌++◌, length, get_or, take, drop, sym, refl, ap, ◌∙◌, arith, Result}
 use Rattle.std.proofs.lemmas.List.{get_or_default, take-append-le, take_all, length-take-le, take-take}
 use Rattle.refusals.specs.declared.Question.{Question}
 use Rattle.calculus.specs.declared.entry.Entry.{Entry}
 use Rattle.calculus.specs.declared.node.Node.{Node}
 use Rattle.calculus.specs.Kinds.{blank}
 use Rattle.calculus.specs.Tables.{occurs}
-use Rattle.types.specs.Adding.{index_of, with_entry}
+use Rattle.types.specs.Adding.{with_entry}
 use Rattle.types.proofs.Adding.{with_low, with_most}
-use Rattle.checker.specs.declared.frame.Awaits.{Awaits}
-use Rattle.checker.specs.declared.frame.Awaits.TheVariants.{First}
 use Rattle.checker.specs.declared.frame.Frame.{Frame}
 use Rattle.checker.specs.declared.machine.Finished.{Finished}
 use Rattle.checker.specs.declared.rules.Arrival.{Arrival}
-use Rattle.checker.specs.declared.rules.Arrival.TheVariants.{Waits}
 use Rattle.checker.specs.declared.rules.Reaction.{Reaction}
-use Rattle.checker.specs.declared.rules.Reaction.TheVariants.{Done, Build, Next}
-use Rattle.checker.specs.Frames.{frame, stack, put_frame_lem, context, bind}
 use Rattle.checker.specs.Rules.{arrive, react}
-use Rattle.checker.specs.Judging.{refused}
-use Rattle.checker.specs.Machine.{node_at, go, halt, finished, reach_by, take_by, reaction_of, Keeps}
-use Rattle.checker.proofs.Stacks.{stack_put}
+use Rattle.checker.specs.Machine.{node_at, reaction_of, Keeps}
 
 -- an element that was read
 read_node : (N : List Node) (i : ℕ) (n : Node) → i < length N → n ≡ get_or N i n → n ≡ node_at N i
@@ -31,58 +24,16 @@ pub arrived : (profile : ℕ) (N : List Node) (p : ℕ) (n : Node) (Γ : List �
     → v ≡ arrive profile n.kind n.number p Γ → v ≡ arrive profile (node_at N p).kind (node_at N p).number p Γ
 arrived profile N p n Γ v h e q = q ∙ ap (λ (m : Node). arrive profile m.kind m.number p Γ) (read_node N p n h e)
 
-pub waits_step : (p d b : ℕ) (w w' B : List ℕ) (Γ : List ℕ) (T : List Entry) (o : Option ℕ) (s : Bool) (v : Result Arrival Question)
-    → s ≡ is_some o → w' ≡ put_frame_lem w d (frame p First s) → 3 * d + 3 ≤ length w → context B b ≡ bind o Γ → Ok (Waits o) ≡ v
-    → go (p + 1) (stack w' (d + 1)) (context B b) T None ≡ reach_by p (stack w d) Γ T v
-waits_step p d b w w' B Γ T o s v es ew h eb ev =
-    let a : stack w' (d + 1) ≡ frame p First (is_some o) ∷ stack w d
-    = ap (λ x. stack x (d + 1)) ew ∙ stack_put w d (frame p First s) h ∙ ap (λ x. frame p First x ∷ stack w d) es in
-    ap (λ F. go (p + 1) F (context B b) T None) a
-    ∙ ap (λ Δ. go (p + 1) (frame p First (is_some o) ∷ stack w d) Δ T None) eb
-    ∙ ap (reach_by p (stack w d) Γ T) ev
-
-pub reacted : (profile : ℕ) (N : List Node) (ts : List Entry) (count : ℕ) (x : Finished) (f g : Frame) (n m : Node) (v : Result Reaction Question)
-    → f ≡ g → f.place < length N → x.place < length N → n ≡ get_or N f.place n
+pub reacted : (profile : ℕ) (N : List Node) (ts : List Entry) (count : ℕ) (x : Finished) (f : Frame) (n m : Node) (v : Result Reaction Question)
+    → f.place < length N → x.place < length N → n ≡ get_or N f.place n
     → v ≡ react profile n.kind n.number f.place f.awaits (take (count - 0) ts) x.ty (get_or N x.place m).kind
-    → v ≡ reaction_of profile N g (take count ts) x
-reacted profile N ts count x f g n m v ef hf hx en ev =
+    → v ≡ reaction_of profile N f (take count ts) x
+reacted profile N ts count x f n m v hf hx en ev =
     let z : count - 0 ≡ count = omega arith in
     ev
     ∙ ap (λ (k : ℕ). react profile n.kind n.number f.place f.awaits (take k ts) x.ty (get_or N x.place m).kind) z
     ∙ ap (λ (u : Node). react profile u.kind u.number f.place f.awaits (take count ts) x.ty (get_or N x.place m).kind) (read_node N f.place n hf en)
     ∙ ap (λ (u : Node). react profile (node_at N f.place).kind (node_at N f.place).number f.place f.awaits (take count ts) x.ty u.kind) (get_or_default N x.place m blank hx)
-    ∙ ap (λ (h : Frame). reaction_of profile N h (take count ts) x) ef
-
-module _ (p : ℕ) (w w' : List ℕ) (f g : Frame) (Γ Δ : List ℕ) (T : List Entry) (v : Result Reaction Question) (ef : f ≡ g) where
-  pub done_step : (top ty : ℕ) → Γ ≡ Δ → Ok (Done ty) ≡ v → go p (stack w top) Γ T (finished ty f.place) ≡ take_by p g (stack w top) Δ T v
-  done_step top ty eΓ ev =
-      ap (λ Θ. go p (stack w top) Θ T (finished ty f.place)) eΓ
-      ∙ ap (λ (h : Frame). go p (stack w top) Δ T (finished ty h.place)) ef
-      ∙ ap (take_by p g (stack w top) Δ T) ev
-
-  pub build_step : (top ty : ℕ) (x : Entry) (U : List Entry) → Γ ≡ Δ → ty ≡ index_of x T → U ≡ with_entry T x → Ok (Build x) ≡ v
-      → go p (stack w top) Γ U (finished ty f.place) ≡ take_by p g (stack w top) Δ T v
-  build_step top ty x U eΓ et eU ev =
-      ap (λ Θ. go p (stack w top) Θ U (finished ty f.place)) eΓ
-      ∙ ap (λ (h : Frame). go p (stack w top) Δ U (finished ty h.place)) ef
-      ∙ ap (λ V. go p (stack w top) Δ V (finished ty g.place)) eU
-      ∙ ap (λ k. go p (stack w top) Δ (with_entry T x) (finished k g.place)) et
-      ∙ ap (take_by p g (stack w top) Δ T) ev
-
-  pub next_step : (d : ℕ) (a : Awaits) (o : Option ℕ) (s : Bool) → 0 < d → 3 * d ≤ length w → s ≡ is_some o
-      → w' ≡ put_frame_lem w (d - 1) (frame f.place a s) → Γ ≡ bind o Δ → Ok (Next a o) ≡ v
-      → go p (stack w' d) Γ T None ≡ take_by p g (stack w (d - 1)) Δ T v
-  next_step d a o s h l es ew eΓ ev =
-      let z : d ≡ d - 1 + 1 = omega arith in
-      let k : stack w' d ≡ frame g.place a (is_some o) ∷ stack w (d - 1)
-      = ap (stack w') z ∙ ap (λ x. stack x (d - 1 + 1)) ew ∙ stack_put w (d - 1) (frame f.place a s) (omega arith)
-      ∙ ap (λ x. frame f.place a x ∷ stack w (d - 1)) es ∙ ap (λ (u : Frame). frame u.place a (is_some o) ∷ stack w (d - 1)) ef in
-      ap (λ F. go p F Γ T None) k
-      ∙ ap (λ Θ. go p (frame g.place a (is_some o) ∷ stack w (d - 1)) Θ T None) eΓ
-      ∙ ap (take_by p g (stack w (d - 1)) Δ T) ev
-
-  pub reject_step : (q : Question) (F : List Frame) → Err q ≡ v → halt (refused q) ≡ take_by p g F Δ T v
-  reject_step q F ev = ap (take_by p g F Δ T) ev
 
 pub same_keeps : (n : ℕ) (ts : List Entry) → n ≤ length ts → Keeps n n ts ts
 same_keeps n ts h = record { low = omega arith; most = omega arith; front = refl }

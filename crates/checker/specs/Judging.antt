@@ -20,7 +20,7 @@ use Rattle.checker.specs.declared.rules.Arrival.{Arrival}
 use Rattle.checker.specs.declared.rules.Arrival.TheVariants.{Known, Waits}
 use Rattle.checker.specs.declared.rules.Reaction.{Reaction}
 use Rattle.checker.specs.declared.rules.Reaction.TheVariants.{Done, Build, Next}
-use Rattle.checker.specs.Frames.{bind}
+use Rattle.checker.specs.Contexts.{bind}
 use Rattle.checker.specs.Rules.{arrive, react}
 use Rattle.checker.specs.Trees.{Tree, tree, Trees, none, more, tree_size, root, view}
 

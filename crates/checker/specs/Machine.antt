@@ -5,16 +5,15 @@
 --   reach_by, reached   what reaching a node comes to
 --   take_by, reaction_of, taken   what finishing a node comes to
 --   stepped       one turn
---   state_of      a state of the code, by the numbers that hold its frames and binders
+--   state_of      the code's machine
 --   state_after, step_after   what the code went on to, or its end
 --   outcome_of    the outcome that an answer of the code stands for
---   count_or, count_after   the count of entries after a turn
 --   Keeps         a type table with c entries becomes one with d, of which the first c are the same
---   KeptFits      the type that a frame is to keep has 16 bits
+--   Same          what a turn leaves of the code's machine
 --   ReachReady, TakeReady, Ready   what a turn needs
---   Input         what the machine is given: a rule, a table with its count, and numbers for frames and binders
+--   Input         what the machine is given: a rule, a table with its count, and so many numbers for frames and for binders
 -- Assumes nothing.
-use Rattle.std.specs.Prelude.{◌≡◌, ℕ, ◌+◌, ◌-◌, ◌*◌, ◌^◌, ◌<◌, ◌≤◌, true, List, [], ◌∷◌, length, take, is_some, Some, None, Ok, Err, Option, Result, slice_index_or}
+use Rattle.std.specs.Prelude.{◌≡◌, ℕ, ◌+◌, ◌*◌, ◌^◌, ◌<◌, ◌≤◌, true, List, [], ◌∷◌, length, take, is_some, Some, None, Ok, Err, Option, Result, slice_index_or}
 use Rattle.std.specs.declared.ops.ControlFlow.{ControlFlow}
 use Rattle.std.specs.declared.ops.ControlFlow.TheVariants.{Continue, Break}
 use Rattle.refusals.specs.declared.Question.{Question}
@@ -27,12 +26,14 @@ use Rattle.types.specs.Adding.{index_of, with_entry}
 use Rattle.checker.specs.declared.frame.Awaits.TheVariants.{First}
 use Rattle.checker.specs.declared.frame.Frame.{Frame}
 use Rattle.checker.specs.declared.machine.Finished.{Finished}
-use Rattle.checker.specs.declared.machine.State.{State}
+use Rattle.checker.specs.declared.machine.Machine.{Machine}
 use Rattle.checker.specs.declared.rules.Arrival.{Arrival}
 use Rattle.checker.specs.declared.rules.Arrival.TheVariants.{Known, Waits}
 use Rattle.checker.specs.declared.rules.Reaction.{Reaction}
 use Rattle.checker.specs.declared.rules.Reaction.TheVariants.{Done, Build, Next}
-use Rattle.checker.specs.Frames.{kept_of, frame, frame_at, stack, context, bind, unbind}
+use Rattle.checker.specs.Awaiting.{kept_of, frame}
+use Rattle.checker.specs.Contexts.{bind, unbind}
+use Rattle.checker.specs.Frames.{Stacked}
 use Rattle.checker.specs.Rules.{arrive, react}
 use Rattle.checker.specs.Judging.{Outcome, typed, refused}
 
@@ -76,77 +77,68 @@ stepped profile N (go p F Γ T None) = reached profile N p F Γ T
 stepped profile N (go p F Γ T (Some x)) = taken profile N p F Γ T x
 stepped profile N (halt o) = halt o
 
--- a state of the code, by the numbers that hold its frames and binders
-abbrev pub state_of : State → List ℕ → List ℕ → List Entry → Step
-state_of s w B ts = go s.at (stack w s.depth) (context B s.bound) (take s.count ts) s.done
+-- the code's machine, with the table by then
+abbrev pub state_of : Machine → List Entry → Step
+state_of m T = go m.at m.stack.frames m.binders.types T m.done
 
-abbrev pub state_after : Result State Question → List ℕ → List ℕ → List Entry → Step
-state_after (Ok s) w B ts = state_of s w B ts
-state_after (Err q) w B ts = halt (refused q)
+abbrev pub state_after : Result (Unit {0}) Question → Machine → List Entry → Step
+state_after (Ok a) m T = state_of m T
+state_after (Err q) m T = halt (refused q)
 
-abbrev pub step_after : Result (ControlFlow (ℕ × ℕ) State) Question → List ℕ → List ℕ → List Entry → Step
-step_after (Ok (Continue s)) w B ts = state_of s w B ts
-step_after (Ok (Break a)) w B ts = halt (typed a.0 (take a.1 ts))
-step_after (Err q) w B ts = halt (refused q)
+abbrev pub step_after : Result (ControlFlow ℕ (Unit {0})) Question → Machine → List Entry → Step
+step_after (Ok (Continue a)) m T = state_of m T
+step_after (Ok (Break ty)) m T = halt (typed ty T)
+step_after (Err q) m T = halt (refused q)
 
 abbrev pub outcome_of : Result (ℕ × ℕ) Question → List Entry → Outcome
 outcome_of (Ok a) ts = typed a.0 (take a.1 ts)
 outcome_of (Err q) ts = refused q
-
--- the count of entries after a turn, or c where it refuses
-abbrev pub count_or : ℕ → Result State Question → ℕ
-count_or c (Ok s) = s.count
-count_or c (Err q) = c
-
-abbrev pub count_after : ℕ → Result (ControlFlow (ℕ × ℕ) State) Question → ℕ
-count_after c (Ok (Continue s)) = s.count
-count_after c (Ok (Break a)) = a.1
-count_after c (Err q) = c
 
 pub record Keeps (c d : ℕ) (ts us : List Entry) : Type 0 where
   pub low : c ≤ d
   pub most : d ≤ length us
   pub front : take c us ≡ take c ts
 
-pub record ReachReady (N : List Node) (w B : List ℕ) (s : State) : Type 0 where
-  pub here : s.at < length N
-  pub next : s.at + 1 < 2 ^ 16
-  pub room : 3 * s.depth + 3 ≤ length w
-  pub slot : s.bound < length B
+-- the rule, the profile and the room of a machine stay
+pub record Same (m m' : Machine) : Type 0 where
+  pub nodes : m'.nodes.now ≡ m.nodes.now
+  pub profile : m'.profile ≡ m.profile
+  pub frames : m'.stack.room ≡ m.stack.room
+  pub binders : m'.binders.room ≡ m.binders.room
 
-abbrev pub KeptFits : Result Reaction Question → Type 0
-KeptFits (Ok (Done ty)) = Unit {0}
-KeptFits (Ok (Build x)) = Unit {0}
-KeptFits (Ok (Next a b)) = kept_of a < 2 ^ 16
-KeptFits (Err q) = Unit {0}
+pub record ReachReady (m : Machine) : Type 0 where
+  pub here : m.at < length m.nodes.now
+  pub next : m.at + 1 < 2 ^ 16
+  pub room : length m.stack.frames < m.stack.room
+  pub slot : length m.binders.types < m.binders.room
 
-pub record TakeReady (profile : ℕ) (N : List Node) (ts : List Entry) (w B : List ℕ) (s : State) (x : Finished) : Type 0 where
-  pub deep : 0 < s.depth
-  pub room : 3 * s.depth ≤ length w
-  pub slot : s.bound < length B
-  pub binder : (frame_at w (s.depth - 1)).bound ≡ true → 0 < s.bound
-  pub place : (frame_at w (s.depth - 1)).place < length N
-  pub within : x.place < length N
-  pub known : x.ty < s.count
-  pub kept : kept_of (frame_at w (s.depth - 1)).awaits < s.count
-  pub spare : s.count < length ts
-  pub few : s.count < 2 ^ 16
-  pub fits : KeptFits (reaction_of profile N (frame_at w (s.depth - 1)) (take s.count ts) x)
+-- of the frame f, which was taken off, and the finished child x
+pub record TakeReady (m : Machine) (ts : List Entry) (f : Frame) (x : Finished) : Type 0 where
+  pub room : length m.stack.frames < m.stack.room
+  pub slot : length m.binders.types < m.binders.room
+  pub binder : f.bound ≡ true → 0 < length m.binders.types
+  pub place : f.place < length m.nodes.now
+  pub within : x.place < length m.nodes.now
+  pub known : x.ty < m.count
+  pub kept : kept_of f.awaits < m.count
+  pub spare : m.count < length ts
+  pub few : m.count < 2 ^ 16
 
-abbrev pub ReadyBy : ℕ → List Node → List Entry → List ℕ → List ℕ → State → Option Finished → Type 0
-ReadyBy profile N ts w B s None = ReachReady N w B s
-ReadyBy profile N ts w B s (Some x) = 0 < s.depth → TakeReady profile N ts w B s x
+abbrev pub ReadyBy : Machine → List Entry → Option Finished → Type 0
+ReadyBy m ts None = ReachReady m
+ReadyBy m ts (Some x) =
+    (f : Frame) (s : Stacked) → m.stack.frames ≡ f ∷ s.frames → s.room ≡ m.stack.room → TakeReady (record m { stack = s }) ts f x
 
-pub record Ready (profile : ℕ) (N : List Node) (ts : List Entry) (w B : List ℕ) (s : State) : Type 0 where
-  pub counts : s.count ≤ length ts
-  pub by : ReadyBy profile N ts w B s s.done
+pub record Ready (m : Machine) (ts : List Entry) : Type 0 where
+  pub counts : m.count ≤ length ts
+  pub by : ReadyBy m ts m.done
 
-pub record Input (N : List Node) (ts : List Entry) (C : ℕ) (w B : List ℕ) : Type 0 where
+pub record Input (N : List Node) (ts : List Entry) (C : ℕ) (frames binders : ℕ) : Type 0 where
   pub term : OneTerm C N
   pub table : LaidDown (take C ts)
   pub given : 6 ≤ C
   pub few_nodes : length N ≤ 4096
   pub few_types : C ≤ 1030
   pub types : C + length N ≤ length ts
-  pub words : 3 * length N ≤ length w
-  pub slots : length N ≤ length B
+  pub words : 3 * length N ≤ frames
+  pub slots : length N ≤ binders

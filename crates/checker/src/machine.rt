@@ -1,12 +1,13 @@
 // The checker as a machine: it goes through the nodes once, and keeps the unfinished ones as frames in lent numbers.
-ghost use Rattle.std.specs.Prelude.{◌≡◌, ◌-◌, ◌≤◌, List, length, take, IfOk};
+ghost use Rattle.std.specs.Prelude.{◌≡◌, ◌≤◌, List, length, take, IfOk};
 ghost use Rattle.calculus.specs.declared.entry.Entry.{Entry as Row};
 ghost use Rattle.calculus.specs.Syntax.{Term, flat};
-ghost use Rattle.checker.specs.Frames.{Small, frame_at, stack, context, unbind};
+ghost use Rattle.checker.specs.Contexts.{unbind};
 ghost use Rattle.checker.specs.Judging.{judge_term};
-ghost use Rattle.checker.specs.Machine.{Input, Keeps, count_or, count_after, reached, take_by, reaction_of, state_of, state_after, step_after, outcome_of, ReachReady, TakeReady, Ready, stepped};
+ghost use Rattle.checker.specs.Machine.{Input, Keeps, Same, reached, take_by, reaction_of, state_of, state_after, step_after, outcome_of, ReachReady, TakeReady, Ready, stepped};
 
-use crate::frame::{Awaits, Frame, frame_at, pop_binder, push_binder, put_frame};
+use crate::binders::Binders;
+use crate::frame::{Awaits, Frame, Stack};
 use crate::rules::{Arrival, Reaction, Site};
 use calculus::entry::Entry;
 use calculus::node::Node;
@@ -21,159 +22,108 @@ pub struct Finished {
     pub place: u16,
 }
 
-// The place of the next node, how many frames and binders there are, how many entries the table has, and the node that has
-// just been finished, if any.
-#[derive(Clone, Copy)]
-pub struct State {
-    pub at: u16,
-    pub depth: usize,
-    pub bound: usize,
-    pub count: usize,
-    pub done: Option<Finished>,
+// The rule and the profile; the frames and the binders; the place of the next node, how many entries the type table has, and
+// the node that has just been finished, if any. The table is lent to each turn beside the machine: once a struct that holds a
+// lent list is gone, what stands in the list is known only by a clause of every method that the reference is the same.
+#[derive(Drop)]
+pub struct Machine<'n, 's, 'b> {
+    nodes: &'n [Node],
+    profile: u32,
+    stack: Stack<'s>,
+    binders: Binders<'b>,
+    at: u16,
+    count: usize,
+    done: Option<Finished>,
 }
 
-// The next node is reached.
-fn descend(
-    nodes: &[Node],
-    profile: u32,
-    frames: &mut [u32],
-    binders: &mut [u32],
-    st: State,
-) -> Result<State, Question>
-    requires ready { ReachReady nodes.now frames.old binders.old st }
-    requires small_frames { Small frames.old }
-    requires small_binders { Small binders.old }
-    ensures step { (ts : List Row) → state_after result frames.new binders.new ts ≡ reached profile nodes.now st.at (stack frames.old st.depth) (context binders.old st.bound) (take st.count ts) }
-    ensures small_frames { Small frames.new }
-    ensures small_binders { Small binders.new }
-    ensures count { IfOk result (λ s. s.count ≡ st.count) }
-{
-    let site = Site {
-        profile,
-        node: nodes[usize::from(st.at)],
-        place: st.at,
-    };
-    match site.reach(binders, st.bound)? {
-        Arrival::Known(ty) => Ok(State {
-            at: st.at + 1,
-            depth: st.depth,
-            bound: st.bound,
-            count: st.count,
-            done: Some(Finished { ty, place: st.at }),
-        }),
-        Arrival::Waits(binder) => {
-            let frame = Frame {
-                place: st.at,
-                awaits: Awaits::First,
-                bound: binder.is_some(),
-            };
-            put_frame(frames, st.depth, frame);
-            let bound = push_binder(binders, st.bound, binder);
-            Ok(State {
-                at: st.at + 1,
-                depth: st.depth + 1,
-                bound,
-                count: st.count,
-                done: None,
-            })
+impl<'n, 's, 'b> Machine<'n, 's, 'b> {
+    // The next node is reached.
+    fn descend(&mut self) -> Result<(), Question>
+        requires ready { ReachReady self.old }
+        ensures step { (T : List Row) → state_after result self.new T ≡ reached self.old.profile self.old.nodes.now self.old.at self.old.stack.frames self.old.binders.types T }
+        ensures same { Same self.old self.new }
+        ensures count { self.new.count ≡ self.old.count }
+    {
+        let place = self.at;
+        let site = Site {
+            profile: self.profile,
+            node: self.nodes[usize::from(place)],
+            place,
+        };
+        let arrival = site.reach(&self.binders)?;
+        self.at = place + 1;
+        match arrival {
+            Arrival::Known(ty) => {
+                self.done = Some(Finished { ty, place });
+                Ok(())
+            }
+            Arrival::Waits(binder) => {
+                self.stack.push(Frame {
+                    place,
+                    awaits: Awaits::First,
+                    bound: binder.is_some(),
+                });
+                self.binders.enter(binder);
+                self.done = None;
+                Ok(())
+            }
         }
     }
-}
 
-// The node in the topmost frame takes its finished child.
-fn ascend(
-    nodes: &[Node],
-    profile: u32,
-    types: &mut [Entry],
-    frames: &mut [u32],
-    binders: &mut [u32],
-    st: State,
-    x: Finished,
-) -> Result<State, Question>
-    requires ready { TakeReady profile nodes.now types.old frames.old binders.old st x }
-    requires small_frames { Small frames.old }
-    requires small_binders { Small binders.old }
-    ensures step { state_after result frames.new binders.new types.new ≡ take_by st.at (frame_at frames.old (st.depth - 1)) (stack frames.old (st.depth - 1)) (unbind (frame_at frames.old (st.depth - 1)).bound (context binders.old st.bound)) (take st.count types.old) (reaction_of profile nodes.now (frame_at frames.old (st.depth - 1)) (take st.count types.old) x) }
-    ensures small_frames { Small frames.new }
-    ensures small_binders { Small binders.new }
-    ensures keeps { Keeps st.count (count_or st.count result) types.old types.new }
-{
-    let top = st.depth - 1;
-    let frame = frame_at(frames, top);
-    let site = Site {
-        profile,
-        node: nodes[usize::from(frame.place)],
-        place: frame.place,
-    };
-    let head = nodes[usize::from(x.place)].kind;
-    let count = st.count;
-    let bound = pop_binder(st.bound, frame.bound);
-    let known = &types[0..count];
-    match site.take_child(frame.awaits, known, x.ty, head)? {
-        Reaction::Done(ty) => Ok(State {
-            at: st.at,
-            depth: top,
-            bound,
-            count,
-            done: Some(Finished {
-                ty,
-                place: frame.place,
-            }),
-        }),
-        Reaction::Build(entry) => {
-            let (ty, grown) = add(types, count, entry);
-            Ok(State {
-                at: st.at,
-                depth: top,
-                bound,
-                count: grown,
-                done: Some(Finished {
-                    ty,
-                    place: frame.place,
-                }),
-            })
-        }
-        Reaction::Next(awaits, binder) => {
-            let next = Frame {
-                place: frame.place,
-                awaits,
-                bound: binder.is_some(),
-            };
-            put_frame(frames, top, next);
-            let bound = push_binder(binders, bound, binder);
-            Ok(State {
-                at: st.at,
-                depth: st.depth,
-                bound,
-                count,
-                done: None,
-            })
+    // The node of this frame, which was taken off the stack, takes its finished child.
+    fn ascend(&mut self, types: &mut [Entry], frame: Frame, child: Finished) -> Result<(), Question>
+        requires ready { TakeReady self.old types.old frame child }
+        ensures step { state_after result self.new (take self.new.count types.new) ≡ take_by self.old.at frame self.old.stack.frames (unbind frame.bound self.old.binders.types) (take self.old.count types.old) (reaction_of self.old.profile self.old.nodes.now frame (take self.old.count types.old) child) }
+        ensures same { Same self.old self.new }
+        ensures keeps { Keeps self.old.count self.new.count types.old types.new }
+    {
+        let place = frame.place;
+        let site = Site {
+            profile: self.profile,
+            node: self.nodes[usize::from(place)],
+            place,
+        };
+        let head = self.nodes[usize::from(child.place)].kind;
+        let known = &types[0..self.count];
+        let reaction = site.take_child(frame.awaits, known, child.ty, head)?;
+        self.binders.leave(frame.bound);
+        match reaction {
+            Reaction::Done(ty) => {
+                self.done = Some(Finished { ty, place });
+                Ok(())
+            }
+            Reaction::Build(entry) => {
+                let (ty, grown) = add(types, self.count, entry);
+                self.count = grown;
+                self.done = Some(Finished { ty, place });
+                Ok(())
+            }
+            Reaction::Next(awaits, binder) => {
+                self.stack.push(Frame {
+                    place,
+                    awaits,
+                    bound: binder.is_some(),
+                });
+                self.binders.enter(binder);
+                self.done = None;
+                Ok(())
+            }
         }
     }
-}
 
-// One turn of the machine: on to another state, or to an end with the type and the count of entries.
-fn turn_once(
-    nodes: &[Node],
-    profile: u32,
-    types: &mut [Entry],
-    frames: &mut [u32],
-    binders: &mut [u32],
-    st: State,
-) -> Result<ControlFlow<(u16, usize), State>, Question>
-    requires ready { Ready profile nodes.now types.old frames.old binders.old st }
-    requires small_frames { Small frames.old }
-    requires small_binders { Small binders.old }
-    ensures step { step_after result frames.new binders.new types.new ≡ stepped profile nodes.now (state_of st frames.old binders.old types.old) }
-    ensures small_frames { Small frames.new }
-    ensures small_binders { Small binders.new }
-    ensures keeps { Keeps st.count (count_after st.count result) types.old types.new }
-{
-    match st.done {
-        None => descend(nodes, profile, frames, binders, st).map(ControlFlow::Continue),
-        Some(x) if st.depth == 0 => Ok(ControlFlow::Break((x.ty, st.count))),
-        Some(x) => {
-            ascend(nodes, profile, types, frames, binders, st, x).map(ControlFlow::Continue)
+    // One turn: on, or to the end with the number of the rule's type.
+    fn turn(&mut self, types: &mut [Entry]) -> Result<ControlFlow<u16>, Question>
+        requires ready { Ready self.old types.old }
+        ensures step { step_after result self.new (take self.new.count types.new) ≡ stepped self.old.profile self.old.nodes.now (state_of self.old (take self.old.count types.old)) }
+        ensures same { Same self.old self.new }
+        ensures keeps { Keeps self.old.count self.new.count types.old types.new }
+    {
+        match self.done {
+            None => self.descend().map(ControlFlow::Continue),
+            Some(child) => match self.stack.pop() {
+                None => Ok(ControlFlow::Break(child.ty)),
+                Some(frame) => self.ascend(types, frame, child).map(ControlFlow::Continue),
+            },
         }
     }
 }
@@ -187,25 +137,26 @@ pub fn judge_nodes(
     frames: &mut [u32],
     binders: &mut [u32],
 ) -> Result<(u16, usize), Question>
-    requires ready { Input nodes.now types.old count frames.old binders.old }
-    requires small_frames { Small frames.old }
-    requires small_binders { Small binders.old }
+    requires ready { Input nodes.now types.old count (length frames.old) (length binders.old) }
     ensures judged { (t : Term) → flat t ≡ nodes.now → outcome_of result types.new ≡ judge_term profile t (take count types.old) }
     ensures front { take count types.new ≡ take count types.old }
     ensures low { IfOk result (λ a. count ≤ a.1) }
     ensures within { IfOk result (λ a. a.1 ≤ length types.new) }
 {
-    let mut st = State {
+    let stack = Stack::new(frames);
+    let binders = Binders::new(binders);
+    let mut machine = Machine {
+        nodes,
+        profile,
+        stack,
+        binders,
         at: 0,
-        depth: 0,
-        bound: 0,
         count,
         done: None,
     };
     'turns: loop {
-        match turn_once(nodes, profile, types, frames, binders, st)? {
-            ControlFlow::Continue(next) => st = next,
-            ControlFlow::Break(typed) => return Ok(typed),
+        if let ControlFlow::Break(ty) = machine.turn(types)? {
+            return Ok((ty, machine.count));
         }
     }
 }

@@ -1,11 +1,12 @@
 // The typing rules, one node at a time: what a node does when it is reached, and what it does with a finished child.
-ghost use Rattle.std.specs.Prelude.{◌≡◌, ◌<◌, ◌≤◌, length};
+ghost use Rattle.std.specs.Prelude.{◌≡◌, ◌<◌, length};
 ghost use Rattle.std.specs.Option.{ok_or};
-ghost use Rattle.checker.specs.Frames.{Small, kept_of, context};
+ghost use Rattle.checker.specs.Awaiting.{kept_of};
 ghost use Rattle.checker.specs.Rules.{answer_type, answered_by, first, second, third, react, arrive};
 ghost use Rattle.refusals.specs.declared.Question.TheVariants.{QuestionKnown};
 
-use crate::frame::{Awaits, binder_type};
+use crate::binders::Binders;
+use crate::frame::Awaits;
 use calculus::entry::Entry;
 use calculus::form::Form;
 use calculus::kind::Kind;
@@ -161,13 +162,12 @@ impl Site {
     }
 
     // What is done on reaching the node under these binders: questions 20 and 21.
-    pub fn reach(self, binders: &[u32], bound: usize) -> Result<Arrival, Question>
-        requires bound { bound ≤ length binders.now }
-        requires small { Small binders.now }
-        ensures value { result ≡ arrive self.profile self.node.kind self.node.number self.place (context binders.now bound) }
+    pub fn reach(self, binders: &Binders) -> Result<Arrival, Question>
+        ensures value { result ≡ arrive self.profile self.node.kind self.node.number self.place binders.now.types }
     {
         match self.node.kind {
-            Kind::Variable => binder_type(binders, bound, self.node.number)
+            Kind::Variable => binders
+                .get(self.node.number)
                 .map(Arrival::Known)
                 .ok_or(Question::IndexBound { place: self.place }),
             Kind::Zero => Ok(Arrival::Known(0)),

@@ -1,12 +1,10 @@
-use Rattle.std.proofs.Common.{◌≡◌, length, sym, ap, ◌∙◌, arith, rules}
+use Rattle.std.proofs.Common.{length, ap, ◌∙◌, arith, rules}
 use Rattle.checker.specs.Checking.{zeros}
-use Rattle.checker.proofs.Checks.{accept_call, reject_call, small_zeros}
+use Rattle.checker.proofs.Checks.{accept_call, reject_call}
 use Rattle.checker.proofs.check.judge_rule.Goals as goal
 
 pub judge_nodes-requires : goal.judge_nodes-requires
 judge_nodes-requires c =
-    let filled : c.fill.new.self ≡ zeros (length c.args.scratch.now) = search rules in
-    let small = small_zeros (length c.args.scratch.now) _ _ (sym filled ∙ c.split_at_mut-frames.ensures.value) in
     record {
       ready = record {
         term = c.requires.term;
@@ -16,10 +14,8 @@ judge_nodes-requires c =
         few_types = c.requires.counts.few_types;
         types = c.requires.room.0;
         words = omega (arith, c.split_at_mut-frames.ensures.front_len);
-        slots = omega (arith, c.split_at_mut-frames.ensures.back_len, c.requires.room.1, c.fill.ensures.len);
+        slots = omega (arith, c.split_at_mut-frames.ensures.back_len, c.requires.room.1);
       };
-      small_frames = small.0;
-      small_binders = small.1;
     }
 
 pub returns-in-Ok : goal.returns-in-Ok

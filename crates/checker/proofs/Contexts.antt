@@ -1,9 +1,10 @@
 -- Contexts of binders. Assumes nothing.
-use Rattle.std.proofs.Common.{◌≡◌, ℕ, zero, suc, ◌+◌, ◌-◌, ◌^◌, ◌<◌, ◌≤◌, true, List, ◌∷◌, length, get_or, set, is_some, Some, None, Option, refl, ap, ◌∙◌, inl, inr, arith}
+use Rattle.std.proofs.Common.{◌≡◌, ℕ, zero, suc, ◌+◌, ◌-◌, ◌^◌, ◌<◌, ◌≤◌, true, List, ◌∷◌, length, get_or, set, is_some, Some, None, Option, sym, refl, ap, ◌∙◌, inl, inr, arith}
 use Rattle.std.specs.List.{slice_get}
-use Rattle.std.proofs.lemmas.List.{get_or-set_same, get_or-set_other}
+use Rattle.std.proofs.lemmas.List.{get_or-set_same, get_or-set_other, length-set}
 use Rattle.std.proofs.lemmas.Bool.{cases_eq}
-use Rattle.checker.specs.Frames.{Small, context, bind, unbind}
+use Rattle.checker.specs.Contexts.{Small, context, bind, unbind}
+use Rattle.checker.specs.Binders.{Bound}
 
 pub length_context : (B : List ℕ) (b : ℕ) → length (context B b) ≡ b
 length_context B zero = refl
@@ -35,11 +36,12 @@ context_more B b x h =
     let c = context_other B b b x (omega arith) in
     rw z (cc)
 
-pub small_set : (B : List ℕ) (i x : ℕ) → i < length B → x < 2 ^ 16 → Small B → Small (set B i x)
-small_set B i x l h s k =
-    elim (cases_eq k i) [
-      | inl e ↦ (let z : get_or (set B i x) k 0 ≡ x = ap (λ j. get_or (set B i x) j 0) e ∙ get_or-set_same B i x 0 l in omega arith)
-      | inr n ↦ (let z = get_or-set_other B i k x 0 n in omega (arith, s k))
+-- a small number written past the small ones
+pub small_more : (B : List ℕ) (n x m : ℕ) → n < length B → x < 2 ^ 16 → m ≤ n + 1 → Small B n → Small (set B n x) m
+small_more B n x m l h le s k below =
+    elim (cases_eq k n) [
+      | inl e ↦ (let z : get_or (set B n x) k 0 ≡ x = ap (λ j. get_or (set B n x) j 0) e ∙ get_or-set_same B n x 0 l in omega arith)
+      | inr ne ↦ (let z = get_or-set_other B n k x 0 ne in omega (arith, s k (omega arith)))
     ]
 
 -- leaving a binder returns to the context before it
@@ -51,3 +53,18 @@ unbound (Some t) Γ = refl
 pub context_less : (B : List ℕ) (b : ℕ) → 0 < b → context B (b - 1) ≡ unbind true (context B b)
 context_less B zero h = absurd (omega arith)
 context_less B (suc b) h = let e : suc b - 1 ≡ b = omega arith in rw e
+
+-- Binders in lent numbers.
+abbrev pub held : List ℕ → ℕ → Bound
+held B b = record { types = context B b; room = length B }
+
+pub held_length : (B : List ℕ) (b : ℕ) (v : Bound) → held B b ≡ v → (length v.types ≡ b) × (length B ≡ v.room)
+held_length B b v e = (sym (ap (λ (u : Bound). length u.types) e) ∙ length_context B b, ap (λ (u : Bound). u.room) e)
+
+pub entered : (B : List ℕ) (b x : ℕ) (o : Option ℕ) (v : Bound) → b < length B → o ≡ Some x → held B b ≡ v
+    → held (set B b x) (b + 1) ≡ record { types = bind o v.types; room = v.room }
+entered B b x o v h eo e =
+    let c = context_more B b x h in
+    let l : length (set B b x) ≡ length B = simp length-set in
+    rw (c, l) (ap (λ (u : Bound). let w : Bound = record { types = x ∷ u.types; room = u.room } in w) e
+    ∙ ap (λ (p : Option ℕ). let w : Bound = record { types = bind p v.types; room = v.room } in w) (sym eo))
