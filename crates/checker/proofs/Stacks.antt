@@ -1,5 +1,5 @@
 -- Frames in numbers. Assumes nothing.
-use Rattle.std.proofs.Common.{◌≡◌, ℕ, zero, suc, ◌+◌, ◌-◌, ◌*◌, ◌/◌, ◌^◌, ◌<◌, ◌≤◌, Bool, true, false, List, [], ◌∷◌, length, get_or, set, sym, refl, ap, ◌∙◌, arith}
+use Rattle.std.proofs.Common.{◌≡◌, ℕ, zero, suc, ◌+◌, ◌-◌, ◌*◌, ◌/◌, ◌^◌, ◌<◌, ◌≤◌, Bool, true, false, List, ◌∷◌, length, get_or, set, sym, refl, ap, ◌∙◌, arith}
 use Rattle.std.proofs.lemmas.List.{get_or-set_same, get_or-set_other, length-set}
 use Rattle.checker.specs.declared.frame.Awaits.{Awaits}
 use Rattle.checker.specs.declared.frame.Awaits.TheVariants.{First, Second, Third}
@@ -117,6 +117,3 @@ pushed w d f a b c v h ea eb ec e =
 
 pub popped : (w : List ℕ) (d : ℕ) (v : Stacked) → 0 < d → piled w d ≡ v → v.frames ≡ frame_at w (d - 1) ∷ stack w (d - 1)
 popped w d v h e = sym (ap (λ (u : Stacked). u.frames) e) ∙ stack_step w d h
-
-pub unpiled : (w : List ℕ) (d : ℕ) (v : Stacked) → d ≡ 0 → piled w d ≡ v → v.frames ≡ []
-unpiled w d v z e = sym (ap (λ (u : Stacked). u.frames) e) ∙ ap (stack w) z

@@ -5,6 +5,8 @@
 --   reach_by, reached   what reaching a node comes to
 --   take_by, reaction_of, taken   what finishing a node comes to
 --   stepped       one turn
+--   site_of       a node, as the code's machine sees it
+--   waiting       the code's machine once a node waits for a child
 --   state_of      the code's machine
 --   state_after, step_after   what the code went on to, or its end
 --   outcome_of    the outcome that an answer of the code stands for
@@ -23,6 +25,7 @@ use Rattle.calculus.specs.Kinds.{blank}
 use Rattle.calculus.specs.Tables.{LaidDown}
 use Rattle.terms.specs.Whole.{OneTerm}
 use Rattle.types.specs.Adding.{index_of, with_entry}
+use Rattle.checker.specs.declared.frame.Awaits.{Awaits}
 use Rattle.checker.specs.declared.frame.Awaits.TheVariants.{First}
 use Rattle.checker.specs.declared.frame.Frame.{Frame}
 use Rattle.checker.specs.declared.machine.Finished.{Finished}
@@ -31,6 +34,7 @@ use Rattle.checker.specs.declared.rules.Arrival.{Arrival}
 use Rattle.checker.specs.declared.rules.Arrival.TheVariants.{Known, Waits}
 use Rattle.checker.specs.declared.rules.Reaction.{Reaction}
 use Rattle.checker.specs.declared.rules.Reaction.TheVariants.{Done, Build, Next}
+use Rattle.checker.specs.declared.rules.Site.{Site}
 use Rattle.checker.specs.Awaiting.{kept_of, frame}
 use Rattle.checker.specs.Contexts.{bind, unbind}
 use Rattle.checker.specs.Frames.{Stacked}
@@ -76,6 +80,18 @@ abbrev pub stepped : ℕ → List Node → Step → Step
 stepped profile N (go p F Γ T None) = reached profile N p F Γ T
 stepped profile N (go p F Γ T (Some x)) = taken profile N p F Γ T x
 stepped profile N (halt o) = halt o
+
+-- a node, as the code's machine sees it
+abbrev pub site_of : Machine → ℕ → Site
+site_of m p = record { profile = m.profile; node = node_at m.nodes.now p; place = p }
+
+-- the code's machine once the node at p waits for a child under the binder b
+abbrev pub waiting : Machine → ℕ → Awaits → Option ℕ → Machine
+waiting m p a b = record m {
+  stack = record { frames = frame p a (is_some b) ∷ m.stack.frames; room = m.stack.room };
+  binders = record { types = bind b m.binders.types; room = m.binders.room };
+  done = None;
+}
 
 -- the code's machine, with the table by then
 abbrev pub state_of : Machine → List Entry → Step

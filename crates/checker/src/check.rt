@@ -15,10 +15,7 @@ use types::table::counts_fit;
 fn refused(question: Question) -> Refusal
     ensures value { result ≡ in_check question }
 {
-    Refusal {
-        layer: Layer::Check,
-        question,
-    }
+    Layer::Check.refuse(question)
 }
 
 // Questions 10 to 13.

@@ -1,10 +1,10 @@
 // The checker as a machine: it goes through the nodes once, and keeps the unfinished ones as frames in lent numbers.
-ghost use Rattle.std.specs.Prelude.{◌≡◌, ◌≤◌, List, length, take, IfOk};
+ghost use Rattle.std.specs.Prelude.{◌≡◌, ◌<◌, ◌≤◌, List, length, take, IfOk};
 ghost use Rattle.calculus.specs.declared.entry.Entry.{Entry as Row};
 ghost use Rattle.calculus.specs.Syntax.{Term, flat};
 ghost use Rattle.checker.specs.Contexts.{unbind};
 ghost use Rattle.checker.specs.Judging.{judge_term};
-ghost use Rattle.checker.specs.Machine.{Input, Keeps, Same, reached, take_by, reaction_of, state_of, state_after, step_after, outcome_of, ReachReady, TakeReady, Ready, stepped};
+ghost use Rattle.checker.specs.Machine.{Input, Keeps, Same, reached, take_by, reaction_of, site_of, waiting, state_of, state_after, step_after, outcome_of, ReachReady, TakeReady, Ready, stepped};
 
 use crate::binders::Binders;
 use crate::frame::{Awaits, Frame, Stack};
@@ -22,9 +22,10 @@ pub struct Finished {
     pub place: u16,
 }
 
-// The rule and the profile; the frames and the binders; the place of the next node, how many entries the type table has, and
-// the node that has just been finished, if any. The table is lent to each turn beside the machine: once a struct that holds a
-// lent list is gone, what stands in the list is known only by a clause of every method that the reference is the same.
+// The rule and the profile, the frames and the binders; the place of the next node, how many entries the type table has, and
+// the node that has just been finished, if any.
+// The type table is lent to each turn and stands in no struct with its count, which is no plainer: a caller would know the table
+// after such a struct only if every method had a clause that its reference is the same, and the struct a Drop by hand.
 #[derive(Drop)]
 pub struct Machine<'n, 's, 'b> {
     nodes: &'n [Node],
@@ -37,6 +38,33 @@ pub struct Machine<'n, 's, 'b> {
 }
 
 impl<'n, 's, 'b> Machine<'n, 's, 'b> {
+    // The node at a place.
+    fn site(&self, place: u16) -> Site
+        requires within { place < length self.now.nodes.now }
+        ensures value { result ≡ site_of self.now place }
+    {
+        Site {
+            profile: self.profile,
+            node: self.nodes[usize::from(place)],
+            place,
+        }
+    }
+
+    // The node at a place is to wait for this child, under a binder of this type if there is one.
+    fn wait(&mut self, place: u16, awaits: Awaits, binder: Option<u16>)
+        requires room { length self.old.stack.frames < self.old.stack.room }
+        requires slot { length self.old.binders.types < self.old.binders.room }
+        ensures after { self.new ≡ waiting self.old place awaits binder }
+    {
+        self.stack.push(Frame {
+            place,
+            awaits,
+            bound: binder.is_some(),
+        });
+        self.binders.enter(binder);
+        self.done = None;
+    }
+
     // The next node is reached.
     fn descend(&mut self) -> Result<(), Question>
         requires ready { ReachReady self.old }
@@ -45,11 +73,7 @@ impl<'n, 's, 'b> Machine<'n, 's, 'b> {
         ensures count { self.new.count ≡ self.old.count }
     {
         let place = self.at;
-        let site = Site {
-            profile: self.profile,
-            node: self.nodes[usize::from(place)],
-            place,
-        };
+        let site = self.site(place);
         let arrival = site.reach(&self.binders)?;
         self.at = place + 1;
         match arrival {
@@ -58,13 +82,7 @@ impl<'n, 's, 'b> Machine<'n, 's, 'b> {
                 Ok(())
             }
             Arrival::Waits(binder) => {
-                self.stack.push(Frame {
-                    place,
-                    awaits: Awaits::First,
-                    bound: binder.is_some(),
-                });
-                self.binders.enter(binder);
-                self.done = None;
+                self.wait(place, Awaits::First, binder);
                 Ok(())
             }
         }
@@ -78,11 +96,7 @@ impl<'n, 's, 'b> Machine<'n, 's, 'b> {
         ensures keeps { Keeps self.old.count self.new.count types.old types.new }
     {
         let place = frame.place;
-        let site = Site {
-            profile: self.profile,
-            node: self.nodes[usize::from(place)],
-            place,
-        };
+        let site = self.site(place);
         let head = self.nodes[usize::from(child.place)].kind;
         let known = &types[0..self.count];
         let reaction = site.take_child(frame.awaits, known, child.ty, head)?;
@@ -99,13 +113,7 @@ impl<'n, 's, 'b> Machine<'n, 's, 'b> {
                 Ok(())
             }
             Reaction::Next(awaits, binder) => {
-                self.stack.push(Frame {
-                    place,
-                    awaits,
-                    bound: binder.is_some(),
-                });
-                self.binders.enter(binder);
-                self.done = None;
+                self.wait(place, awaits, binder);
                 Ok(())
             }
         }
