@@ -49,11 +49,6 @@ pub unbound : (b : Option ℕ) (Γ : List ℕ) → unbind (is_some b) (bind b Γ
 unbound None Γ = refl
 unbound (Some t) Γ = refl
 
--- one binder fewer
-pub context_less : (B : List ℕ) (b : ℕ) → 0 < b → context B (b - 1) ≡ unbind true (context B b)
-context_less B zero h = absurd (omega arith)
-context_less B (suc b) h = let e : suc b - 1 ≡ b = omega arith in rw e
-
 -- Binders in lent numbers.
 abbrev pub held : List ℕ → ℕ → Bound
 held B b = record { types = context B b; room = length B }

@@ -18,7 +18,7 @@ use Rattle.checker.specs.Rules.{arrive}
 use Rattle.checker.specs.Trees.{Tree, tree, trees_onto}
 use Rattle.checker.specs.Judging.{Outcome, judge_term}
 use Rattle.checker.specs.Machine.{node_at, Step, go, halt, reach_by, take_by, reaction_of, stepped, state_of, Keeps, Same, ReachReady, TakeReady, ReadyBy, Ready}
-use Rattle.checker.proofs.Turns.{keeps_on}
+use Rattle.checker.proofs.Keeping.{keeps_on}
 use Rattle.checker.proofs.Tracks.{Pending, plain, plains, binders, after, Down, Up, Good, headed, good_reached, good_taken}
 
 length_plains : (K : List Pending) → length (plains K) ≡ length K

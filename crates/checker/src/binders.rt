@@ -6,7 +6,7 @@ ghost use Rattle.checker.specs.Contexts.{bind, unbind};
 use std::marker::Model;
 
 // The types of the binders around a node, in lent numbers. A clause sees the types, the innermost first, and for how many there
-// is room.
+// is room. Each number has 16 bits, so `as` loses nothing when it is read.
 #[derive(Drop)]
 pub struct Binders<'a> {
     words: &'a mut [u32],

@@ -18,7 +18,7 @@ fn refused(question: Question) -> Refusal
     Layer::Check.refuse(question)
 }
 
-// Questions 10 to 13.
+// Questions 10 to 13. A place has 16 bits, so `as` loses nothing: TryFrom would add an error that never comes.
 fn admit(nodes: &[Node], types: &[Entry], count: usize, words: usize) -> Result<(), Question>
     ensures first { MatchResult result (λ _. Checkable nodes.now types.now count words) (λ q. Uncheckable nodes.now types.now count words q) }
 {

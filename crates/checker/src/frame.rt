@@ -64,7 +64,7 @@ impl Frame {
 }
 
 // The frames of the unfinished nodes, in lent numbers, three to a frame: its place, its code, its kept type. A clause sees the
-// frames, the topmost first, and for how many there is room.
+// frames, the topmost first, and for how many there is room. Each number has 16 bits, so `as` loses nothing when it is read.
 #[derive(Drop)]
 pub struct Stack<'a> {
     words: &'a mut [u32],

@@ -24,8 +24,9 @@ pub struct Finished {
 
 // The rule and the profile, the frames and the binders; the place of the next node, how many entries the type table has, and
 // the node that has just been finished, if any.
-// The type table is lent to each turn and stands in no struct with its count, which is no plainer: a caller would know the table
-// after such a struct only if every method had a clause that its reference is the same, and the struct a Drop by hand.
+// Each has a lifetime of its own, since a function that makes a machine gets no proof where they share one. The type table is
+// lent to each turn and stands in no struct with its count, which is no plainer: a caller would know the table after such a
+// struct only if every method had a clause that its reference is the same, and the struct a Drop by hand.
 #[derive(Drop)]
 pub struct Machine<'n, 's, 'b> {
     nodes: &'n [Node],

@@ -9,7 +9,7 @@ use Rattle.checker.specs.Judging.{judge_term}
 use Rattle.checker.specs.Machine.{go}
 use Rattle.checker.proofs.Tracks.{Good, good_start}
 use Rattle.checker.proofs.Readies.{running_ready, running_on, good_turn, left_turn}
-use Rattle.checker.proofs.Turns.{same_keeps, keeps_on}
+use Rattle.checker.proofs.Keeping.{same_keeps, keeps_on}
 use Rattle.checker.proofs.Views.{view_onto, view_whole, numbers_in, parts_in}
 use Rattle.checker.proofs.machine.judge_nodes.Goals as goal
 

@@ -1,4 +1,4 @@
--- What one turn of the code comes to, as a turn of the machine on lists. Assumes nothing.
+-- Type tables that keep their first entries. Assumes nothing.
 use Rattle.std.proofs.Common.{ℕ, ◌≤◌, List, length, take, sym, refl, ap, ◌∙◌, arith}
 use Rattle.std.proofs.lemmas.List.{take-take}
 use Rattle.calculus.specs.declared.entry.Entry.{Entry}
