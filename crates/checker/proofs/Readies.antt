@@ -3,10 +3,11 @@ use Rattle.std.proofs.Common.{◌≡◌, ℕ, suc, ◌+◌, ◌-◌, ◌*◌, �
 use Rattle.std.proofs.lemmas.List.{length-take-le}
 use Rattle.refusals.specs.declared.Question.{Question}
 use Rattle.calculus.specs.declared.entry.Entry.{Entry}
+use Rattle.calculus.specs.declared.kind.Kind.{Kind}
 use Rattle.calculus.specs.declared.node.Node.{Node}
 use Rattle.calculus.specs.Syntax.{Term, flat}
 use Rattle.checker.specs.declared.frame.Frame.{Frame}
-use Rattle.checker.specs.declared.machine.Finished.{Finished}
+use Rattle.checker.specs.declared.rules.Finished.{Finished}
 use Rattle.checker.specs.declared.machine.Machine.{Machine}
 use Rattle.checker.specs.declared.rules.Arrival.{Arrival}
 use Rattle.checker.specs.declared.rules.Arrival.TheVariants.{Known, Waits}
@@ -96,7 +97,6 @@ module _ (m : Machine) (C : ℕ) (o : Outcome) (ts : List Entry) (r : Room m C t
             slot = omega (arith, d.room, d.base.low, d.base.inside, r.binders);
             binder = λ q. omega (arith, some_bound h.b (binders K) (subst (λ (u : Frame). u.bound ≡ true) (sym top) q));
             place = subst (λ (u : Frame). u.place < length N) top so.within;
-            within = d.within;
             known = omega (arith, d.known, lt);
             kept = subst (λ (u : Frame). kept_of u.awaits < m.count) top (omega (arith, so.keeps, lt));
             spare = omega (arith, d.room, d.base.inside, r.types, lt);
@@ -122,27 +122,27 @@ left N (go q F Γ T None) = 3 * (length N - q) + length F + 1
 left N (go q F Γ T (Some x)) = 3 * (length N - q) + length F + 2
 left N (halt o) = 0
 
-less_reach : (N : List Node) (q : ℕ) (F : List Frame) (Γ : List ℕ) (T : List Entry) (v : Result Arrival Question) → q < length N
-    → left N (reach_by q F Γ T v) < 3 * (length N - q) + length F + 1
-less_reach N q F Γ T (Ok (Known ty)) h = omega arith
-less_reach N q F Γ T (Ok (Waits b)) h = omega arith
-less_reach N q F Γ T (Err x) h = omega arith
+less_reach : (N : List Node) (q : ℕ) (k : Kind) (F : List Frame) (Γ : List ℕ) (T : List Entry) (v : Result Arrival Question) → q < length N
+    → left N (reach_by q k F Γ T v) < 3 * (length N - q) + length F + 1
+less_reach N q k F Γ T (Ok (Known ty)) h = omega arith
+less_reach N q k F Γ T (Ok (Waits b)) h = omega arith
+less_reach N q k F Γ T (Err x) h = omega arith
 
-less_take : (N : List Node) (q : ℕ) (f : Frame) (F : List Frame) (Γ : List ℕ) (T : List Entry) (v : Result Reaction Question)
-    → left N (take_by q f F Γ T v) < 3 * (length N - q) + suc (length F) + 2
-less_take N q f F Γ T (Ok (Done ty)) = omega arith
-less_take N q f F Γ T (Ok (Build x)) = omega arith
-less_take N q f F Γ T (Ok (Next a b)) = omega arith
-less_take N q f F Γ T (Err x) = omega arith
+less_take : (N : List Node) (q : ℕ) (f : Frame) (k : Kind) (F : List Frame) (Γ : List ℕ) (T : List Entry) (v : Result Reaction Question)
+    → left N (take_by q f k F Γ T v) < 3 * (length N - q) + suc (length F) + 2
+less_take N q f k F Γ T (Ok (Done ty)) = omega arith
+less_take N q f k F Γ T (Ok (Build x)) = omega arith
+less_take N q f k F Γ T (Ok (Next a b)) = omega arith
+less_take N q f k F Γ T (Err x) = omega arith
 
 pub falls : (profile : ℕ) (N : List Node) (C : ℕ) (o : Outcome) (q : ℕ) (F : List Frame) (Γ : List ℕ) (T : List Entry) (d : Option Finished)
     → Good profile N C o (go q F Γ T d) → left N (stepped profile N (go q F Γ T d)) < left N (go q F Γ T d)
-falls profile N C o q F Γ T None g = less_reach N q F Γ T (arrive profile (node_at N q).kind (node_at N q).number q Γ) (inside g.3.0 g.3.1)
+falls profile N C o q F Γ T None g = less_reach N q (node_at N q).kind F Γ T (arrive profile (node_at N q).kind (node_at N q).number q Γ) (inside g.3.0 g.3.1)
   where
     inside : (t : Tree) → Down profile N C o q g.0 T t → q < length N
     inside (tree n us) d = (headed N q n (trees_onto us (after g.0)) d.ahead).lt
 falls profile N C o q [] Γ T (Some x) g = omega arith
-falls profile N C o q (f ∷ F) Γ T (Some x) g = less_take N q f F _ T (reaction_of profile N f T x)
+falls profile N C o q (f ∷ F) Γ T (Some x) g = less_take N q f (node_at N f.place).kind F _ T (reaction_of profile N f T x)
 
 -- the code's machine on its way: what it has kept of what it was given, and what the whole comes to
 pub record Running (N : List Node) (profile C : ℕ) (ts us : List Entry) (m : Machine) : Type 0 where

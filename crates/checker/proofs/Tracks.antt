@@ -11,7 +11,7 @@ use Rattle.types.proofs.Adding.{with_low, with_most, index_low}
 use Rattle.checker.specs.declared.frame.Awaits.{Awaits}
 use Rattle.checker.specs.declared.frame.Awaits.TheVariants.{First}
 use Rattle.checker.specs.declared.frame.Frame.{Frame}
-use Rattle.checker.specs.declared.machine.Finished.{Finished}
+use Rattle.checker.specs.declared.rules.Finished.{Finished}
 use Rattle.checker.specs.declared.rules.Arrival.{Arrival}
 use Rattle.checker.specs.declared.rules.Arrival.TheVariants.{Known, Waits}
 use Rattle.checker.specs.declared.rules.Reaction.{Reaction}
@@ -112,8 +112,7 @@ pub record Up (profile : ℕ) (N : List Node) (C : ℕ) (o : Outcome) (q : ℕ) 
   pub room : length T + length K < C + q
   pub ahead : drop q N ≡ after K
   pub known : x.ty < length T
-  pub within : x.place < length N
-  pub track : resume profile K q (node_at N x.place).kind (typed x.ty T) ≡ o
+  pub track : resume profile K q x.kind (typed x.ty T) ≡ o
 
 abbrev pub Good : ℕ → List Node → ℕ → Outcome → Step → Type 0
 Good profile N C o (halt r) = r ≡ o
@@ -164,10 +163,10 @@ module _ (profile : ℕ) (N : List Node) (C : ℕ) (o : Outcome) where
       (number_at N C (length T) q n d.base.low l e d.base.numbers) (binders_in N (length T) K d.base.sounds)
 
   frame_fits : (q : ℕ) (f : Pending) (K : List Pending) (T : List Entry) (x : Finished) → Up profile N C o q (f ∷ K) T x
-      → ReactionFits (react profile f.n.kind f.n.number f.p f.a T x.ty (node_at N x.place).kind) (arity f.n.kind) (child_of f.a) (length T)
+      → ReactionFits (react profile f.n.kind f.n.number f.p f.a T x.ty x.kind) (arity f.n.kind) (child_of f.a) (length T)
   frame_fits q f K T x d =
       let s = d.base.sounds.0 in
-      react_fits profile f.n.kind f.n.number f.p f.a T x.ty (node_at N x.place).kind (omega (arith, d.base.given, d.base.low))
+      react_fits profile f.n.kind f.n.number f.p f.a T x.ty x.kind (omega (arith, d.base.given, d.base.low))
       (number_at N C (length T) f.p f.n d.base.low s.within s.here d.base.numbers) d.base.parts s.keeps d.known
 
   reach_good : (q : ℕ) (K : List Pending) (T : List Entry) (n : Node) (ts : Trees) (v : Result Arrival Question)
@@ -175,7 +174,7 @@ module _ (profile : ℕ) (N : List Node) (C : ℕ) (o : Outcome) where
       → ArrivalFits v (arity n.kind) (length T)
       → resume profile K (q + suc (trees_size ts)) n.kind
       (on_arrival v T (λ b. children profile ts n.kind n.number q First b (binders K) T (suc q))) ≡ o
-      → Good profile N C o (reach_by q (plains K) (binders K) T v)
+      → Good profile N C o (reach_by q n.kind (plains K) (binders K) T v)
   reach_good q K T n none (Ok (Known ty)) b m h ar w fit e = (
     K,
     refl,
@@ -185,8 +184,7 @@ module _ (profile : ℕ) (N : List Node) (C : ℕ) (o : Outcome) where
       room = omega arith;
       ahead = h.tail;
       known = fit.1;
-      within = h.lt;
-      track = ap (λ (u : Node). resume profile K (q + 1) u.kind (typed ty T)) h.is ∙ e;
+      track = e;
     },
   )
   reach_good q K T n (more u ts) (Ok (Known ty)) b m h ar w fit e = absurd (omega (arith, fit.0))
@@ -222,7 +220,7 @@ module _ (profile : ℕ) (N : List Node) (C : ℕ) (o : Outcome) where
   good_reached_at : (q : ℕ) (K : List Pending) (T : List Entry) (t : Tree) → Down profile N C o q K T t → Good profile N C o (reached profile N q (plains K) (binders K) T)
   good_reached_at q K T (tree n ts) d =
       let h = headed N q n (trees_onto ts (after K)) d.ahead in
-      subst (λ (m : Node). Good profile N C o (reach_by q (plains K) (binders K) T (arrive profile m.kind m.number q (binders K)))) (sym h.is)
+      subst (λ (m : Node). Good profile N C o (reach_by q m.kind (plains K) (binders K) T (arrive profile m.kind m.number q (binders K)))) (sym h.is)
       (reach_good q K T n ts (arrive profile n.kind n.number q (binders K)) d.base d.room h d.whole.0 d.whole.1
       (node_fits q K T n ts d h.lt h.is) d.track)
 
@@ -238,7 +236,7 @@ module _ (profile : ℕ) (N : List Node) (C : ℕ) (o : Outcome) where
       → ReactionFits v (arity n.kind) (child_of a) (length T)
       → resume profile K (q + trees_size rest) n.kind
       (on_reaction v T (λ a' b. children profile rest n.kind n.number p a' b (binders K) T q)) ≡ o
-      → Good profile N C o (take_by q (frame p a (is_some w)) (plains K) (binders K) T v)
+      → Good profile N C o (take_by q (frame p a (is_some w)) n.kind (plains K) (binders K) T v)
   take_good q n p a w none K T (Ok (Done ty)) b m h fit e =
       let s = b.sounds.0 in (
         K,
@@ -249,10 +247,7 @@ module _ (profile : ℕ) (N : List Node) (C : ℕ) (o : Outcome) where
           room = omega arith;
           ahead = h;
           known = fit.1;
-          within = s.within;
-          track =
-              let z : q ≡ q + 0 = omega arith in
-              ap (λ (u : Node). resume profile K q u.kind (typed ty T)) s.here ∙ ap (λ (i : ℕ). resume profile K i n.kind (typed ty T)) z ∙ e;
+          track = let z : q ≡ q + 0 = omega arith in ap (λ (i : ℕ). resume profile K i n.kind (typed ty T)) z ∙ e;
         },
       )
   take_good q n p a w none K T (Ok (Build y)) b m h fit e =
@@ -274,11 +269,9 @@ module _ (profile : ℕ) (N : List Node) (C : ℕ) (o : Outcome) where
           room = omega arith;
           ahead = h;
           known = index_low T y;
-          within = s.within;
           track =
               let z : q ≡ q + 0 = omega arith in
-              ap (λ (u : Node). resume profile K q u.kind (typed (index_of y T) (with_entry T y))) s.here
-              ∙ ap (λ (i : ℕ). resume profile K i n.kind (typed (index_of y T) (with_entry T y))) z ∙ e;
+              ap (λ (i : ℕ). resume profile K i n.kind (typed (index_of y T) (with_entry T y))) z ∙ e;
         },
       )
   take_good q n p a w none K T (Ok (Next c d)) b m h fit e = absurd (omega (arith, fit.0, b.sounds.0.turn))
@@ -314,9 +307,9 @@ module _ (profile : ℕ) (N : List Node) (C : ℕ) (o : Outcome) where
   good_taken_at q [] T x d = d.track
   good_taken_at q (f ∷ K) T x d =
       let s = d.base.sounds.0 in
-      let h = (node_at N x.place).kind in
-      subst (λ (Δ : List ℕ). Good profile N C o (take_by q (plain f) (plains K) Δ T (reaction_of profile N (plain f) T x))) (sym (unbound f.b (binders K)))
-      (subst (λ (m : Node). Good profile N C o (take_by q (plain f) (plains K) (binders K) T (react profile m.kind m.number f.p f.a T x.ty h))) (sym s.here)
+      let h = x.kind in
+      subst (λ (Δ : List ℕ). Good profile N C o (take_by q (plain f) (node_at N f.p).kind (plains K) Δ T (reaction_of profile N (plain f) T x))) (sym (unbound f.b (binders K)))
+      (subst (λ (m : Node). Good profile N C o (take_by q (plain f) m.kind (plains K) (binders K) T (react profile m.kind m.number f.p f.a T x.ty h))) (sym s.here)
       (take_good q f.n f.p f.a f.b f.rest K T (react profile f.n.kind f.n.number f.p f.a T x.ty h) d.base d.room d.ahead
       (frame_fits q f K T x d) d.track))
 

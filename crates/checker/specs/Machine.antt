@@ -13,13 +13,14 @@
 --   Keeps         a type table with c entries becomes one with d, of which the first c are the same
 --   Same          what a turn leaves of the code's machine
 --   ReachReady, TakeReady, Ready   what a turn needs
---   Input         what the machine is given: a rule, a table with its count, and so many numbers for frames and for binders
+--   Input         what the machine is given: a rule, a table with its count, and so many numbers in the scratch list
 -- Assumes nothing.
 use Rattle.std.specs.Prelude.{◌≡◌, ℕ, ◌+◌, ◌*◌, ◌^◌, ◌<◌, ◌≤◌, true, List, [], ◌∷◌, length, take, is_some, Some, None, Ok, Err, Option, Result, slice_index_or}
 use Rattle.std.specs.declared.ops.ControlFlow.{ControlFlow}
 use Rattle.std.specs.declared.ops.ControlFlow.TheVariants.{Continue, Break}
 use Rattle.refusals.specs.declared.Question.{Question}
 use Rattle.calculus.specs.declared.entry.Entry.{Entry}
+use Rattle.calculus.specs.declared.kind.Kind.{Kind}
 use Rattle.calculus.specs.declared.node.Node.{Node}
 use Rattle.calculus.specs.Kinds.{blank}
 use Rattle.calculus.specs.Tables.{LaidDown}
@@ -28,7 +29,7 @@ use Rattle.types.specs.Adding.{index_of, with_entry}
 use Rattle.checker.specs.declared.frame.Awaits.{Awaits}
 use Rattle.checker.specs.declared.frame.Awaits.TheVariants.{First}
 use Rattle.checker.specs.declared.frame.Frame.{Frame}
-use Rattle.checker.specs.declared.machine.Finished.{Finished}
+use Rattle.checker.specs.declared.rules.Finished.{Finished}
 use Rattle.checker.specs.declared.machine.Machine.{Machine}
 use Rattle.checker.specs.declared.rules.Arrival.{Arrival}
 use Rattle.checker.specs.declared.rules.Arrival.TheVariants.{Known, Waits}
@@ -49,32 +50,32 @@ pub data Step : Type 0 where
   go : ℕ → List Frame → List ℕ → List Entry → Option Finished → Step
   halt : Outcome → Step
 
-abbrev pub finished : ℕ → ℕ → Option Finished
-finished ty p = Some (record { ty = ty; place = p })
+abbrev pub finished : ℕ → Kind → Option Finished
+finished ty k = Some (record { ty = ty; kind = k })
 
-abbrev pub reach_by : ℕ → List Frame → List ℕ → List Entry → Result Arrival Question → Step
-reach_by p F Γ T (Ok (Known ty)) = go (p + 1) F Γ T (finished ty p)
-reach_by p F Γ T (Ok (Waits b)) = go (p + 1) (frame p First (is_some b) ∷ F) (bind b Γ) T None
-reach_by p F Γ T (Err q) = halt (refused q)
+-- of the node of the kind k at the place p
+abbrev pub reach_by : ℕ → Kind → List Frame → List ℕ → List Entry → Result Arrival Question → Step
+reach_by p k F Γ T (Ok (Known ty)) = go (p + 1) F Γ T (finished ty k)
+reach_by p k F Γ T (Ok (Waits b)) = go (p + 1) (frame p First (is_some b) ∷ F) (bind b Γ) T None
+reach_by p k F Γ T (Err q) = halt (refused q)
 
 abbrev pub reached : ℕ → List Node → ℕ → List Frame → List ℕ → List Entry → Step
-reached profile N p F Γ T = reach_by p F Γ T (arrive profile (node_at N p).kind (node_at N p).number p Γ)
+reached profile N p F Γ T = reach_by p (node_at N p).kind F Γ T (arrive profile (node_at N p).kind (node_at N p).number p Γ)
 
--- Γ is the context around the node of the frame f
-abbrev pub take_by : ℕ → Frame → List Frame → List ℕ → List Entry → Result Reaction Question → Step
-take_by p f F Γ T (Ok (Done ty)) = go p F Γ T (finished ty f.place)
-take_by p f F Γ T (Ok (Build x)) = go p F Γ (with_entry T x) (finished (index_of x T) f.place)
-take_by p f F Γ T (Ok (Next a b)) = go p (frame f.place a (is_some b) ∷ F) (bind b Γ) T None
-take_by p f F Γ T (Err q) = halt (refused q)
+-- of the frame f of a node of the kind k; Γ is the context around that node
+abbrev pub take_by : ℕ → Frame → Kind → List Frame → List ℕ → List Entry → Result Reaction Question → Step
+take_by p f k F Γ T (Ok (Done ty)) = go p F Γ T (finished ty k)
+take_by p f k F Γ T (Ok (Build x)) = go p F Γ (with_entry T x) (finished (index_of x T) k)
+take_by p f k F Γ T (Ok (Next a b)) = go p (frame f.place a (is_some b) ∷ F) (bind b Γ) T None
+take_by p f k F Γ T (Err q) = halt (refused q)
 
 abbrev pub reaction_of : ℕ → List Node → Frame → List Entry → Finished → Result Reaction Question
 reaction_of profile N f T x =
-    react profile (node_at N f.place).kind (node_at N f.place).number f.place f.awaits T x.ty
-    (node_at N x.place).kind
+    react profile (node_at N f.place).kind (node_at N f.place).number f.place f.awaits T x.ty x.kind
 
 abbrev pub taken : ℕ → List Node → ℕ → List Frame → List ℕ → List Entry → Finished → Step
 taken profile N p [] Γ T x = halt (typed x.ty T)
-taken profile N p (f ∷ F) Γ T x = take_by p f F (unbind f.bound Γ) T (reaction_of profile N f T x)
+taken profile N p (f ∷ F) Γ T x = take_by p f (node_at N f.place).kind F (unbind f.bound Γ) T (reaction_of profile N f T x)
 
 abbrev pub stepped : ℕ → List Node → Step → Step
 stepped profile N (go p F Γ T None) = reached profile N p F Γ T
@@ -134,7 +135,6 @@ pub record TakeReady (m : Machine) (ts : List Entry) (f : Frame) (x : Finished) 
   pub slot : length m.binders.types < m.binders.room
   pub binder : f.bound ≡ true → 0 < length m.binders.types
   pub place : f.place < length m.nodes.now
-  pub within : x.place < length m.nodes.now
   pub known : x.ty < m.count
   pub kept : kept_of f.awaits < m.count
   pub spare : m.count < length ts
@@ -149,12 +149,11 @@ pub record Ready (m : Machine) (ts : List Entry) : Type 0 where
   pub counts : m.count ≤ length ts
   pub by : ReadyBy m ts m.done
 
-pub record Input (N : List Node) (ts : List Entry) (C : ℕ) (frames binders : ℕ) : Type 0 where
+pub record Input (N : List Node) (ts : List Entry) (C : ℕ) (words : ℕ) : Type 0 where
   pub term : OneTerm C N
   pub table : LaidDown (take C ts)
   pub given : 6 ≤ C
   pub few_nodes : length N ≤ 4096
   pub few_types : C ≤ 1030
   pub types : C + length N ≤ length ts
-  pub words : 3 * length N ≤ frames
-  pub slots : length N ≤ binders
+  pub room : 4 * length N ≤ words

@@ -59,8 +59,7 @@ fn judge_rule(
     requires { Checkable nodes.now types.old count (length scratch.old) }
     ensures judged { MatchResult result (λ a. AcceptCall nodes.now types.old count (length scratch.old) profile a.0 a.1 types.new scratch.new) (λ q. RejectCall nodes.now types.old count (length scratch.old) profile q types.new scratch.new) }
 {
-    let (frames, binders) = scratch.split_at_mut(3 * nodes.len());
-    match judge_nodes(nodes, profile, types, count, frames, binders) {
+    match judge_nodes(nodes, profile, types, count, scratch) {
         Ok((type_number, grown)) => {
             clear(types, grown, scratch);
             Ok((type_number, grown))

@@ -4,23 +4,16 @@ ghost use Rattle.calculus.specs.declared.entry.Entry.{Entry as Row};
 ghost use Rattle.calculus.specs.Syntax.{Term, flat};
 ghost use Rattle.checker.specs.Contexts.{unbind};
 ghost use Rattle.checker.specs.Judging.{judge_term};
-ghost use Rattle.checker.specs.Machine.{Input, Keeps, Same, reached, take_by, reaction_of, site_of, waiting, state_of, state_after, step_after, outcome_of, ReachReady, TakeReady, Ready, stepped};
+ghost use Rattle.checker.specs.Machine.{Input, Keeps, Same, node_at, reached, take_by, reaction_of, site_of, waiting, state_of, state_after, step_after, outcome_of, ReachReady, TakeReady, Ready, stepped};
 
 use crate::binders::Binders;
 use crate::frame::{Awaits, Frame, Stack};
-use crate::rules::{Arrival, Reaction, Site};
+use crate::rules::{Arrival, Finished, Reaction, Site};
 use calculus::entry::Entry;
 use calculus::node::Node;
 use refusals::Question;
 use std::ops::ControlFlow;
 use types::table::add;
-
-// A finished node: the number of its type, and where it stands.
-#[derive(Clone, Copy)]
-pub struct Finished {
-    pub ty: u16,
-    pub place: u16,
-}
 
 // The rule and the profile, the frames and the binders; the place of the next node, how many entries the type table has, and
 // the node that has just been finished, if any.
@@ -75,11 +68,12 @@ impl<'n, 's, 'b> Machine<'n, 's, 'b> {
     {
         let place = self.at;
         let site = self.site(place);
+        let kind = site.node.kind;
         let arrival = site.reach(&self.binders)?;
         self.at = place + 1;
         match arrival {
             Arrival::Known(ty) => {
-                self.done = Some(Finished { ty, place });
+                self.done = Some(Finished { ty, kind });
                 Ok(())
             }
             Arrival::Waits(binder) => {
@@ -92,25 +86,25 @@ impl<'n, 's, 'b> Machine<'n, 's, 'b> {
     // The node of this frame, which was taken off the stack, takes its finished child.
     fn ascend(&mut self, types: &mut [Entry], frame: Frame, child: Finished) -> Result<(), Question>
         requires ready { TakeReady self.old types.old frame child }
-        ensures step { state_after result self.new (take self.new.count types.new) ≡ take_by self.old.at frame self.old.stack.frames (unbind frame.bound self.old.binders.types) (take self.old.count types.old) (reaction_of self.old.profile self.old.nodes.now frame (take self.old.count types.old) child) }
+        ensures step { state_after result self.new (take self.new.count types.new) ≡ take_by self.old.at frame (node_at self.old.nodes.now frame.place).kind self.old.stack.frames (unbind frame.bound self.old.binders.types) (take self.old.count types.old) (reaction_of self.old.profile self.old.nodes.now frame (take self.old.count types.old) child) }
         ensures same { Same self.old self.new }
         ensures keeps { Keeps self.old.count self.new.count types.old types.new }
     {
         let place = frame.place;
         let site = self.site(place);
-        let head = self.nodes[usize::from(child.place)].kind;
+        let kind = site.node.kind;
         let known = &types[0..self.count];
-        let reaction = site.take_child(frame.awaits, known, child.ty, head)?;
+        let reaction = site.take_child(frame.awaits, known, child)?;
         self.binders.leave(frame.bound);
         match reaction {
             Reaction::Done(ty) => {
-                self.done = Some(Finished { ty, place });
+                self.done = Some(Finished { ty, kind });
                 Ok(())
             }
             Reaction::Build(entry) => {
                 let (ty, grown) = add(types, self.count, entry);
                 self.count = grown;
-                self.done = Some(Finished { ty, place });
+                self.done = Some(Finished { ty, kind });
                 Ok(())
             }
             Reaction::Next(awaits, binder) => {
@@ -143,15 +137,15 @@ pub fn judge_nodes(
     profile: u32,
     types: &mut [Entry],
     count: usize,
-    frames: &mut [u32],
-    binders: &mut [u32],
+    scratch: &mut [u32],
 ) -> Result<(u16, usize), Question>
-    requires ready { Input nodes.now types.old count (length frames.old) (length binders.old) }
+    requires ready { Input nodes.now types.old count (length scratch.old) }
     ensures judged { (t : Term) → flat t ≡ nodes.now → outcome_of result types.new ≡ judge_term profile t (take count types.old) }
     ensures front { take count types.new ≡ take count types.old }
     ensures low { IfOk result (λ a. count ≤ a.1) }
     ensures within { IfOk result (λ a. a.1 ≤ length types.new) }
 {
+    let (frames, binders) = scratch.split_at_mut(3 * nodes.len());
     let stack = Stack::new(frames);
     let binders = Binders::new(binders);
     let mut machine = Machine {

@@ -34,6 +34,13 @@ pub enum Reaction {
     Next(Awaits, Option<u16>),
 }
 
+// A finished node: the number of its type, and its kind.
+#[derive(Clone, Copy)]
+pub struct Finished {
+    pub ty: u16,
+    pub kind: Kind,
+}
+
 // A node at its place, under a host's profile.
 #[derive(Clone, Copy)]
 pub struct Site {
@@ -125,16 +132,16 @@ impl Site {
         }
     }
 
-    // What the third child makes of the node, where it begins with a node of the kind `head` and its type has the number `ty`
-    // and is `entry`; the kept type is that of the second child: questions 23 and 24.
-    fn third_child(self, kept: u16, ty: u16, entry: Entry, head: Kind) -> Result<Reaction, Question>
-        ensures value { result ≡ third self.node.kind self.place kept ty entry head }
+    // What the third child makes of the node, where its type is `entry`; the kept type is that of the second child: questions
+    // 23 and 24.
+    fn third_child(self, kept: u16, child: Finished, entry: Entry) -> Result<Reaction, Question>
+        ensures value { result ≡ third self.node.kind self.place kept child.ty entry child.kind }
     {
         let steps = entry.form == Form::Function && entry.left == kept && entry.right == kept;
         match self.node.kind {
-            Kind::Rec if steps && head == Kind::Lambda => Ok(Reaction::Done(kept)),
+            Kind::Rec if steps && child.kind == Kind::Lambda => Ok(Reaction::Done(kept)),
             Kind::Rec if steps => Err(Question::StepFunction { place: self.place }),
-            Kind::Case if ty == kept => Ok(Reaction::Done(kept)),
+            Kind::Case if child.ty == kept => Ok(Reaction::Done(kept)),
             _ => Err(Question::LaterChild {
                 place: self.place,
                 child: 3,
@@ -142,22 +149,23 @@ impl Site {
         }
     }
 
-    // What the awaited child makes of the node: its type number is `ty`, and its root of the kind `head`.
+    // What the awaited child makes of the node.
     pub fn take_child(
         self,
         awaits: Awaits,
         types: &[Entry],
-        ty: u16,
-        head: Kind,
+        child: Finished,
     ) -> Result<Reaction, Question>
-        requires known { ty < length types.now }
+        requires known { child.ty < length types.now }
         requires kept { kept_of awaits < length types.now }
-        ensures value { result ≡ react self.profile self.node.kind self.node.number self.place awaits types.now ty head }
+        ensures value { result ≡ react self.profile self.node.kind self.node.number self.place awaits types.now child.ty child.kind }
     {
-        match (awaits, types[usize::from(ty)]) {
-            (Awaits::First, entry) => self.first_child(ty, entry),
-            (Awaits::Second(kept), _) => self.second_child(kept, ty, types[usize::from(kept)]),
-            (Awaits::Third(kept), entry) => self.third_child(kept, ty, entry, head),
+        match (awaits, types[usize::from(child.ty)]) {
+            (Awaits::First, entry) => self.first_child(child.ty, entry),
+            (Awaits::Second(kept), _) => {
+                self.second_child(kept, child.ty, types[usize::from(kept)])
+            }
+            (Awaits::Third(kept), entry) => self.third_child(kept, child, entry),
         }
     }
 

@@ -1,4 +1,4 @@
-use Rattle.std.proofs.Common.{length, ap, ◌∙◌, arith, rules}
+use Rattle.std.proofs.Common.{length, ap, ◌∙◌, rules}
 use Rattle.checker.specs.Checking.{zeros}
 use Rattle.checker.proofs.Checks.{accept_call, reject_call}
 use Rattle.checker.proofs.check.judge_rule.Goals as goal
@@ -13,8 +13,7 @@ judge_nodes-requires c =
         few_nodes = c.requires.counts.few_nodes;
         few_types = c.requires.counts.few_types;
         types = c.requires.room.0;
-        words = omega (arith, c.split_at_mut-frames.ensures.front_len);
-        slots = omega (arith, c.split_at_mut-frames.ensures.back_len, c.requires.room.1);
+        room = c.requires.room.1;
       };
     }
 

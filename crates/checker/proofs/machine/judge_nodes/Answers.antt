@@ -29,8 +29,8 @@ turns-init c =
     record {
       nodes = refl;
       profile_is = refl;
-      frames = omega (arith, room, input.words);
-      binders = omega (arith, slots, input.slots);
+      frames = omega (arith, room, input.room, c.split_at_mut-frames.ensures.front_len);
+      binders = omega (arith, slots, input.room, c.split_at_mut-frames.ensures.back_len);
       good = λ t e.
           let o = judge_term P t T in
           subst (λ (G : List Frame). Good P N C o (go 0 G Γ T None)) (sym (ap (λ (s : Stacked). s.frames) c.new-stack.ensures.value))
