@@ -1,7 +1,10 @@
 -- What the outcome of the machine says of the rule, and exactly when a rule is accepted. Assumes nothing.
-use Rattle.std.proofs.Common.{◌≡◌, ℕ, zero, suc, ◌-◌, ◌≤◌, true, false, List, [], ◌∷◌, ◌++◌, length, get_or, take, drop, replicate, sym, refl, ap, ◌∙◌, subst, arith, ltb-true}
+use Rattle.std.proofs.Common.{◌≡◌, ℕ, suc, ◌-◌, ◌≤◌, true, false, List, [], ◌++◌, length, take, drop, replicate, sym, refl, ap, ◌∙◌, subst, arith, ltb-true, Ok, Err, Result}
+use Rattle.std.specs.Result.{MatchResult, IsErrAnd}
+use Rattle.std.proofs.lemmas.Result.{MatchResult-at_ok, MatchResult-at_err, err_from_is_err_and}
 use Rattle.std.proofs.lemmas.List.{length-take-le, take_at, take-append-drop}
 use Rattle.refusals.specs.declared.Question.{Question}
+use Rattle.refusals.specs.declared.Refusal.{Refusal}
 use Rattle.calculus.specs.declared.entry.Entry.{Entry}
 use Rattle.calculus.specs.declared.node.Node.{Node}
 use Rattle.calculus.specs.Forms.{empty}
@@ -11,11 +14,10 @@ use Rattle.calculus.specs.Typing.{Typed, TypesBelow}
 use Rattle.calculus.specs.Accepted.{Accepted}
 use Rattle.calculus.proofs.Reading.{read_once}
 use Rattle.terms.specs.Ranges.{AllInRange}
-use Rattle.checker.specs.Frames.{Small}
 use Rattle.checker.specs.Judging.{typed, refused, judge_term}
 use Rattle.checker.specs.Meaning.{Means}
 use Rattle.types.proofs.Laid.{laid_front}
-use Rattle.checker.specs.Checking.{Checkable, Uncheckable, counts_unfit, no_room, entry_at_fault, node_at_fault, zeros, AcceptCall, RejectCall, Exactly}
+use Rattle.checker.specs.Checking.{Checkable, Uncheckable, counts_unfit, no_room, entry_at_fault, node_at_fault, in_check, zeros, AcceptCall, RejectCall, Exactly}
 use Rattle.checker.proofs.OutcomeMeans.{judge_means}
 
 -- the type numbers of a term whose nodes are in range
@@ -132,26 +134,6 @@ module _ (nodes : List Node) (types : List Entry) (count words profile : ℕ) wh
       → ∥ ((t : Term) × (flat t ≡ nodes) × Accepted t number profile) ∥₁
   accepted_rule number count' types' scratch' a = ∣ (a.rule, a.is, ∣ (a.left, a.accepts.accepted) ∣₁) ∣₁
 
--- parts of a list of zeros are small
-small_zeros_at : (n i : ℕ) → get_or (zeros n) i 0 ≡ 0
-small_zeros_at zero i = refl
-small_zeros_at (suc n) zero = refl
-small_zeros_at (suc n) (suc i) = small_zeros_at n i
-
-get_or_front : (xs ys : List ℕ) (i : ℕ) → ((j : ℕ) → get_or (xs ++ ys) j 0 ≡ 0) → get_or xs i 0 ≡ 0
-get_or_front [] ys i z = refl
-get_or_front (x ∷ xs) ys zero z = z 0
-get_or_front (x ∷ xs) ys (suc i) z = get_or_front xs ys i (λ j. z (suc j))
-
-get_or_back : (xs ys : List ℕ) (i : ℕ) → ((j : ℕ) → get_or (xs ++ ys) j 0 ≡ 0) → get_or ys i 0 ≡ 0
-get_or_back [] ys i z = z i
-get_or_back (x ∷ xs) ys i z = get_or_back xs ys i (λ j. z (suc j))
-
-pub small_zeros : (n : ℕ) (xs ys : List ℕ) → zeros n ≡ xs ++ ys → Small xs × Small ys
-small_zeros n xs ys e =
-    let z : (j : ℕ) → get_or (xs ++ ys) j 0 ≡ 0 = λ j. ap (λ l. get_or l j 0) (sym e) ∙ small_zeros_at n j in
-    (λ i. omega (arith, get_or_front xs ys i z), λ i. omega (arith, get_or_back xs ys i z))
-
 -- a rule that does not pass 10 to 13 is no rule past them
 pub exactly_unchecked : (nodes : List Node) (types : List Entry) (count words profile : ℕ) (q : Question) (left : List Entry)
     → Uncheckable nodes types count words q → Exactly nodes types count words profile false left
@@ -173,3 +155,28 @@ same_accept nodes types count words types' scratch' {number} {n} {count'} {k} {p
     subst (λ (x : ℕ). AcceptCall nodes types count words x n k types' scratch') ep
     (subst (λ (x : ℕ). AcceptCall nodes types count words profile x k types' scratch') (sym en)
     (subst (λ (x : ℕ). AcceptCall nodes types count words profile number x types' scratch') (sym ek) a))
+
+-- of a result whose question became a refusal: the question of a refusal, and what an answer says
+module _ {A : Type 0} (P : A → Type 0) (Q : Question → Type 0) where
+  pub asked : (r : Result A Question) (s : Result A Refusal) (e : Refusal)
+      → MatchResult r (λ x. s ≡ Ok x) (λ q. IsErrAnd s (λ d. d ≡ in_check q)) → MatchResult r P Q → s ≡ Err e
+      → (q : Question) × (e ≡ in_check q) × Q q
+  asked (Ok x) s e m h i =
+      let f = MatchResult-at_ok {r = Ok x} (λ y. s ≡ Ok y) (λ q. IsErrAnd s (λ d. d ≡ in_check q)) x refl m in
+      absurd (let z : ⊥ = cc in z)
+  asked (Err q) s e m h i =
+      let f = err_from_is_err_and s (MatchResult-at_err {r = Err q} (λ y. s ≡ Ok y) (λ k. IsErrAnd s (λ d. d ≡ in_check k)) q refl m) in
+      let j = f.1 in
+      let z : e ≡ f.0 = cc in
+      (q, z ∙ f.2, MatchResult-at_err {r = Err q} P Q q refl h)
+
+  pub answered : (r : Result A Question) (s : Result A Refusal) (y : A)
+      → MatchResult r (λ x. s ≡ Ok x) (λ q. IsErrAnd s (λ d. d ≡ in_check q)) → MatchResult r P Q → s ≡ Ok y → P y
+  answered (Ok x) s y m h i =
+      let f = MatchResult-at_ok {r = Ok x} (λ y. s ≡ Ok y) (λ q. IsErrAnd s (λ d. d ≡ in_check q)) x refl m in
+      let z : x ≡ y = cc in
+      subst P z (MatchResult-at_ok {r = Ok x} P Q x refl h)
+  answered (Err q) s y m h i =
+      let f = err_from_is_err_and s (MatchResult-at_err {r = Err q} (λ y. s ≡ Ok y) (λ k. IsErrAnd s (λ d. d ≡ in_check k)) q refl m) in
+      let j = f.1 in
+      absurd (let z : ⊥ = cc in z)

@@ -1,8 +1,9 @@
 -- What a node does fits the number of its children, and names only types of the table. Assumes nothing.
-use Rattle.std.proofs.Common.{◌≡◌, ℕ, zero, suc, ◌+◌, ◌<◌, ◌≤◌, Bool, true, false, cond, ◌&&◌, eqb, List, [], ◌∷◌, ◌++◌, length, get_or, Some, None, Option, refl, arith, ltb-true}
+use Rattle.std.proofs.Common.{◌≡◌, ℕ, zero, suc, ◌+◌, ◌<◌, ◌≤◌, Bool, true, false, cond, ◌&&◌, eqb, List, [], ◌∷◌, ◌++◌, length, get_or, Some, None, Option, refl, arith, ltb-true, Ok, Err, Result}
 use Rattle.std.specs.List.{slice_get}
 use Rattle.std.specs.Option.{option_map}
 use Rattle.std.proofs.lemmas.List.{length_push}
+use Rattle.refusals.specs.declared.Question.{Question}
 use Rattle.refusals.specs.declared.Question.TheVariants.{LaterChild, StepFunction}
 use Rattle.calculus.specs.declared.entry.Entry.{Entry}
 use Rattle.calculus.specs.declared.kind.Kind.{Kind}
@@ -19,10 +20,10 @@ use Rattle.types.specs.Adding.{with_entry}
 use Rattle.checker.specs.declared.frame.Awaits.{Awaits}
 use Rattle.checker.specs.declared.frame.Awaits.TheVariants.{First, Second, Third}
 use Rattle.checker.specs.declared.rules.Arrival.{Arrival}
-use Rattle.checker.specs.declared.rules.Arrival.TheVariants.{Known, Waits, Barred}
+use Rattle.checker.specs.declared.rules.Arrival.TheVariants.{Known, Waits}
 use Rattle.checker.specs.declared.rules.Reaction.{Reaction}
-use Rattle.checker.specs.declared.rules.Reaction.TheVariants.{Done, Build, Next, Reject}
-use Rattle.checker.specs.Frames.{kept_of}
+use Rattle.checker.specs.declared.rules.Reaction.TheVariants.{Done, Build, Next}
+use Rattle.checker.specs.Awaiting.{kept_of}
 use Rattle.checker.specs.Rules.{answer_number_lem, answer_type, known_by, asked_by, arrive, has_form, answered_by, first, second, third, child_of, react}
 
 abbrev pub BinderIn : Option ℕ → ℕ → Type 0
@@ -34,17 +35,17 @@ AllIn [] C = Unit {0}
 AllIn (t ∷ Γ) C = (t < C) × AllIn Γ C
 
 -- of a node with ar children, where the table has C entries
-abbrev pub ArrivalFits : Arrival → ℕ → ℕ → Type 0
-ArrivalFits (Known ty) ar C = (ar ≡ 0) × (ty < C)
-ArrivalFits (Waits b) ar C = (0 < ar) × BinderIn b C
-ArrivalFits (Barred q) ar C = Unit {0}
+abbrev pub ArrivalFits : Result Arrival Question → ℕ → ℕ → Type 0
+ArrivalFits (Ok (Known ty)) ar C = (ar ≡ 0) × (ty < C)
+ArrivalFits (Ok (Waits b)) ar C = (0 < ar) × BinderIn b C
+ArrivalFits (Err q) ar C = Unit {0}
 
 -- and where the child number k is finished
-abbrev pub ReactionFits : Reaction → ℕ → ℕ → ℕ → Type 0
-ReactionFits (Done ty) ar k C = (ar ≡ k) × (ty < C)
-ReactionFits (Build x) ar k C = (ar ≡ k) × (x.left < C) × (x.right < C)
-ReactionFits (Next a b) ar k C = (k < ar) × (child_of a ≡ k + 1) × (kept_of a < C) × BinderIn b C
-ReactionFits (Reject q) ar k C = Unit {0}
+abbrev pub ReactionFits : Result Reaction Question → ℕ → ℕ → ℕ → Type 0
+ReactionFits (Ok (Done ty)) ar k C = (ar ≡ k) × (ty < C)
+ReactionFits (Ok (Build x)) ar k C = (ar ≡ k) × (x.left < C) × (x.right < C)
+ReactionFits (Ok (Next a b)) ar k C = (k < ar) × (child_of a ≡ k + 1) × (kept_of a < C) × BinderIn b C
+ReactionFits (Err q) ar k C = Unit {0}
 
 -- a number that is a type is in the table; no node is blank
 abbrev pub NumberIn : Kind → ℕ → ℕ → Type 0
@@ -109,7 +110,7 @@ binder_up (Some t) C D h s = omega arith
 abbrev pub PartsIn : List Entry → Type 0
 PartsIn T = (i : ℕ) → ((get_or T i empty).left < length T) × ((get_or T i empty).right < length T)
 
-if_fits : (b : Bool) (x y : Reaction) (ar k C : ℕ) → ReactionFits x ar k C → ReactionFits y ar k C → ReactionFits (cond b x y) ar k C
+if_fits : (b : Bool) (x y : Result Reaction Question) (ar k C : ℕ) → ReactionFits x ar k C → ReactionFits y ar k C → ReactionFits (cond b x y) ar k C
 if_fits true x y ar k C p q = p
 if_fits false x y ar k C p q = q
 
@@ -125,20 +126,20 @@ first_fits : (profile : ℕ) (k : Kind) (n p ty : ℕ) (x : Entry) (C : ℕ) →
 first_fits profile Blank n p ty x C h i t l r = tt
 first_fits profile Variable n p ty x C h i t l r = tt
 first_fits profile Zero n p ty x C h i t l r = tt
-first_fits profile Successor n p ty x C h i t l r = if_fits _ (Done 0) (Reject _) 1 1 C (refl, omega arith) tt
-first_fits profile Rec n p ty x C h i t l r = if_fits _ (Next (Second ty) None) (Reject _) 3 1 C (omega arith, refl, t, tt) tt
+first_fits profile Successor n p ty x C h i t l r = if_fits _ (Ok (Done 0)) (Err _) 1 1 C (refl, omega arith) tt
+first_fits profile Rec n p ty x C h i t l r = if_fits _ (Ok (Next (Second ty) None)) (Err _) 3 1 C (omega arith, refl, t, tt) tt
 first_fits profile Lambda n p ty x C h i t l r = (refl, i, t)
-first_fits profile Apply n p ty x C h i t l r = if_fits _ (Next (Second ty) None) (Reject _) 2 1 C (omega arith, refl, t, tt) tt
+first_fits profile Apply n p ty x C h i t l r = if_fits _ (Ok (Next (Second ty) None)) (Err _) 2 1 C (omega arith, refl, t, tt) tt
 first_fits profile Triv n p ty x C h i t l r = tt
 first_fits profile Pair n p ty x C h i t l r = (omega arith, refl, t, tt)
-first_fits profile Fst n p ty x C h i t l r = if_fits _ (Done x.left) (Reject _) 1 1 C (refl, l) tt
-first_fits profile Snd n p ty x C h i t l r = if_fits _ (Done x.right) (Reject _) 1 1 C (refl, r) tt
-first_fits profile Abort n p ty x C h i t l r = if_fits _ (Done n) (Reject _) 1 1 C (refl, i) tt
+first_fits profile Fst n p ty x C h i t l r = if_fits _ (Ok (Done x.left)) (Err _) 1 1 C (refl, l) tt
+first_fits profile Snd n p ty x C h i t l r = if_fits _ (Ok (Done x.right)) (Err _) 1 1 C (refl, r) tt
+first_fits profile Abort n p ty x C h i t l r = if_fits _ (Ok (Done n)) (Err _) 1 1 C (refl, i) tt
 first_fits profile Inl n p ty x C h i t l r = (refl, t, i)
 first_fits profile Inr n p ty x C h i t l r = (refl, i, t)
-first_fits profile Case n p ty x C h i t l r = if_fits _ (Next (Second ty) (Some x.left)) (Reject _) 3 1 C (omega arith, refl, t, l) tt
+first_fits profile Case n p ty x C h i t l r = if_fits _ (Ok (Next (Second ty) (Some x.left))) (Err _) 3 1 C (omega arith, refl, t, l) tt
 first_fits profile Query n p ty x C h i t l r =
-    if_fits _ (answered_by (answer_type profile n) p) (Reject _) 1 1 C (answered_fits (question_shape profile n) p C h) tt
+    if_fits _ (answered_by (answer_type profile n) p) (Err _) 1 1 C (answered_fits (question_shape profile n) p C h) tt
 
 second_fits : (k : Kind) (p kept ty : ℕ) (x : Entry) (C : ℕ) → 6 ≤ C → kept < C → ty < C → x.left < C → x.right < C
     → ReactionFits (second k p kept ty x) (arity k) 2 C
@@ -148,7 +149,7 @@ second_fits Zero p kept ty x C h i t l r = tt
 second_fits Successor p kept ty x C h i t l r = tt
 second_fits Rec p kept ty x C h i t l r = (omega arith, refl, t, omega arith)
 second_fits Lambda p kept ty x C h i t l r = tt
-second_fits Apply p kept ty x C h i t l r = if_fits _ (Done x.right) (Reject _) 2 2 C (refl, r) tt
+second_fits Apply p kept ty x C h i t l r = if_fits _ (Ok (Done x.right)) (Err _) 2 2 C (refl, r) tt
 second_fits Triv p kept ty x C h i t l r = tt
 second_fits Pair p kept ty x C h i t l r = (refl, i, t)
 second_fits Fst p kept ty x C h i t l r = tt
@@ -160,7 +161,7 @@ second_fits Case p kept ty x C h i t l r = (omega arith, refl, t, r)
 second_fits Query p kept ty x C h i t l r = tt
 
 step_fits : (b c : Bool) (kept p C : ℕ) → kept < C
-    → ReactionFits (cond b (cond c (Done kept) (Reject (StepFunction p))) (Reject (LaterChild p 3))) 3 3 C
+    → ReactionFits (cond b (cond c (Ok (Done kept)) (Err (StepFunction p))) (Err (LaterChild p 3))) 3 3 C
 step_fits true true kept p C i = (refl, i)
 step_fits true false kept p C i = tt
 step_fits false c kept p C i = tt
@@ -180,7 +181,7 @@ third_fits Snd p kept ty x head C i = tt
 third_fits Abort p kept ty x head C i = tt
 third_fits Inl p kept ty x head C i = tt
 third_fits Inr p kept ty x head C i = tt
-third_fits Case p kept ty x head C i = if_fits _ (Done kept) (Reject _) 3 3 C (refl, i) tt
+third_fits Case p kept ty x head C i = if_fits _ (Ok (Done kept)) (Err _) 3 3 C (refl, i) tt
 third_fits Query p kept ty x head C i = tt
 
 pub react_fits : (profile : ℕ) (k : Kind) (n p : ℕ) (a : Awaits) (T : List Entry) (ty : ℕ) (head : Kind)

@@ -1,6 +1,6 @@
-pub mod Binders
+pub mod Contexts
 pub mod Stacks
-pub mod Turns
+pub mod Keeping
 pub mod Fits
 pub mod Tracks
 pub mod Readies

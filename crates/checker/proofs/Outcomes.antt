@@ -4,7 +4,7 @@
 --   Says      either, by the outcome
 --   Judged    in every context and with every table, the outcome of a term says so
 -- Assumes nothing.
-use Rattle.std.proofs.Common.{◌≡◌, ℕ, suc, ◌+◌, ◌<◌, Bool, true, false, cond, eqb, List, ◌∷◌, length, get_or, Some, None, Option, sym, refl, ap, ◌∙◌, subst, arith}
+use Rattle.std.proofs.Common.{◌≡◌, ℕ, suc, ◌+◌, ◌<◌, Bool, true, false, cond, eqb, List, ◌∷◌, length, get_or, Some, None, Option, sym, refl, ap, ◌∙◌, subst, arith, Ok, Err}
 use mathlib.Core.Bool.{false≢true}
 use Rattle.std.specs.Option.{option_map}
 use Rattle.refusals.specs.declared.Question.{Question}
@@ -23,7 +23,7 @@ use Rattle.calculus.specs.Infer.{value?}
 use Rattle.calculus.proofs.Values.{value_true}
 use Rattle.checker.specs.declared.frame.Awaits.{Awaits}
 use Rattle.checker.specs.declared.frame.Awaits.TheVariants.{First, Second}
-use Rattle.checker.specs.declared.rules.Reaction.TheVariants.{Done, Next, Reject}
+use Rattle.checker.specs.declared.rules.Reaction.TheVariants.{Done, Next}
 use Rattle.checker.specs.Rules.{answer_number_lem, answer_type, known_by, asked_by, answered_by, second, third}
 use Rattle.checker.specs.Trees.{none, more, tree_size, root, view}
 use Rattle.checker.specs.Judging.{Outcome, typed, refused, on_outcome, on_arrival, on_reaction, judge, children}
@@ -171,7 +171,7 @@ module _ (es : List Entry) (profile : ℕ) where
   s_judged e x Γ Δ T p t c =
       after _ (x Γ Δ T (suc p) t c) (λ _ _ _ r. in_s r)
       (λ n U τ f. nat_test (shown_fine f)
-      (λ b. Says es profile Δ T (SU e) p (on_reaction (cond b (Done 0) (Reject (FirstChild p))) U (over p)))
+      (λ b. Says es profile Δ T (SU e) p (on_reaction (cond b (Ok (Done 0)) (Err (FirstChild p))) U (over p)))
       (λ q. fine f.table f.longer (given_reads f.table 0 (omega arith)) (typing_s (retyped q f.derived))
       (grows_s f.grows))
       (λ m. at_fault (s_no_nat f.derived m)))
@@ -188,7 +188,7 @@ module _ (es : List Entry) (profile : ℕ) where
       after _ (x Γ Δ T (suc p) t c) (λ _ _ _ r. in_fst r)
       (λ n U τ f. prod_test (shown_fine f)
       (λ b. Says es profile Δ T (FS e) p
-      (on_reaction (cond b (Done (get_or U n empty).left) (Reject (FirstChild p))) U (over p)))
+      (on_reaction (cond b (Ok (Done (get_or U n empty).left)) (Err (FirstChild p))) U (over p)))
       (λ α β q l r. fine f.table f.longer l (typing_fst (retyped q f.derived)) (grows_fst f.grows))
       (λ m. at_fault (fst_no_product f.derived m)))
 
@@ -197,7 +197,7 @@ module _ (es : List Entry) (profile : ℕ) where
       after _ (x Γ Δ T (suc p) t c) (λ _ _ _ r. in_snd r)
       (λ n U τ f. prod_test (shown_fine f)
       (λ b. Says es profile Δ T (SN e) p
-      (on_reaction (cond b (Done (get_or U n empty).right) (Reject (FirstChild p))) U (over p)))
+      (on_reaction (cond b (Ok (Done (get_or U n empty).right)) (Err (FirstChild p))) U (over p)))
       (λ α β q l r. fine f.table f.longer r (typing_snd (retyped q f.derived)) (grows_snd f.grows))
       (λ m. at_fault (snd_no_product f.derived m)))
 
@@ -205,7 +205,7 @@ module _ (es : List Entry) (profile : ℕ) where
   abort_judged t e h x Γ Δ T p s c =
       after _ (x Γ Δ T (suc p) s c) (λ _ _ _ r. in_abort r)
       (λ n U τ f. void_test (shown_fine f)
-      (λ b. Says es profile Δ T (AB t e) p (on_reaction (cond b (Done t) (Reject (FirstChild p))) U (over p)))
+      (λ b. Says es profile Δ T (AB t e) p (on_reaction (cond b (Ok (Done t)) (Err (FirstChild p))) U (over p)))
       (λ q. fine f.table f.longer (named f.table h) (typing_abort (retyped q f.derived)) (grows_abort f.grows))
       (λ m. at_fault (abort_no_void f.derived m)))
 
@@ -233,7 +233,7 @@ module _ (es : List Entry) (profile : ℕ) where
       after _ (x Γ Δ T (suc p) t c) (λ _ _ _ r. in_query h r)
       (λ n U τ f. nat_test (shown_fine f)
       (λ b. Says es profile Δ T (QU i e) p
-      (on_reaction (cond b (answered_by (answer_type profile i) p) (Reject (FirstChild p))) U (over p)))
+      (on_reaction (cond b (answered_by (answer_type profile i) p) (Err (FirstChild p))) U (over p)))
       (λ q. subst
       (λ (o : Option Shape). Says es profile Δ T (QU i e) p (on_reaction (answered_by (option_map answer_number_lem o) p) U (over p)))
       (sym h)
@@ -264,7 +264,7 @@ module _ (es : List Entry) (profile : ℕ) where
       (λ m V τ h. let parts = fun_parts (shown h.table.laid_down (reads_on h.longer g.reads)) in
       number_test h.table.laid_down h.reads parts.0
       (λ b. Says es profile Δ T (AP f a) p
-      (on_reaction (cond b (Done (get_or V n empty).right) (Reject (LaterChild p 2))) V (over p)))
+      (on_reaction (cond b (Ok (Done (get_or V n empty).right)) (Err (LaterChild p 2))) V (over p)))
       (λ q. fine h.table (longer_on g.longer h.longer) parts.1
       (typing_fapp g.derived (retyped q h.derived)) (grows_fapp g.grows h.grows))
       (λ k. at_fault (argument_differs g.derived h.derived k)))
@@ -274,7 +274,7 @@ module _ (es : List Entry) (profile : ℕ) where
       after _ (x Γ Δ T (suc p) t c) (λ _ _ _ r. in_fapp_1 r)
       (λ n U τ g. fun_test (shown_fine g)
       (λ b. Says es profile Δ T (AP f a) p
-      (on_reaction (cond b (Next (Second n) None) (Reject (FirstChild p))) U
+      (on_reaction (cond b (Ok (Next (Second n) None)) (Err (FirstChild p))) U
       (λ s o. children profile (more (view a) none) Apply 0 p s o Γ U (suc p + tree_size (view f)))))
       (λ α β q l r. fapp_second (refined q g)
       (y Γ Δ U (suc p + tree_size (view f)) g.table (context_on g.longer c)))
@@ -292,10 +292,10 @@ module _ (es : List Entry) (profile : ℕ) where
       (λ i W σ h. step_test h.table.laid_down (shown_fine h) (reads_on h.longer g.reads)
       (λ c. Says es profile Δ T (RE e a b) p
       (on_reaction
-      (cond c (cond (eqb (kind_number (root (view b)).kind) (kind_number Lambda)) (Done n) (Reject (StepFunction p)))
-      (Reject (LaterChild p 3))) W (over p)))
+      (cond c (cond (eqb (kind_number (root (view b)).kind) (kind_number Lambda)) (Ok (Done n)) (Err (StepFunction p)))
+      (Err (LaterChild p 3))) W (over p)))
       (λ q. lambda_test τ τ h.derived q
-      (λ c. Says es profile Δ T (RE e a b) p (on_reaction (cond c (Done n) (Reject (StepFunction p))) W (over p)))
+      (λ c. Says es profile Δ T (RE e a b) p (on_reaction (cond c (Ok (Done n)) (Err (StepFunction p))) W (over p)))
       (λ v. fine h.table (longer_on f.longer (longer_on g.longer h.longer)) (reads_on h.longer g.reads)
       (typing_rec f.derived g.derived (retyped q h.derived) v) (grows_rec f.grows g.grows h.grows))
       (λ k. at_fault (step_no_value f.derived g.derived (retyped q h.derived) k)))
@@ -306,7 +306,7 @@ module _ (es : List Entry) (profile : ℕ) where
       after _ (x Γ Δ T (suc p) t c) (λ _ _ _ r. in_rec_1 r)
       (λ m U σ f. nat_test (shown_fine f)
       (λ b'. Says es profile Δ T (RE e a b) p
-      (on_reaction (cond b' (Next (Second m) None) (Reject (FirstChild p))) U
+      (on_reaction (cond b' (Ok (Next (Second m) None)) (Err (FirstChild p))) U
       (λ s o. children profile (more (view a) (more (view b) none)) Rec 0 p s o Γ U (suc p + tree_size (view e)))))
       (λ q. let f' = refined q f in
       let c' = context_on f.longer c in
@@ -325,7 +325,7 @@ module _ (es : List Entry) (profile : ℕ) where
   case_third {e} {a} {b} {Δ} {T} {p = p} {n = n} f g s =
       after _ s (λ _ _ _ r. in_case_3 f.derived g.derived (moved (third_place p e a) r))
       (λ i W σ h. number_test h.table.laid_down h.reads (reads_on h.longer g.reads)
-      (λ c. Says es profile Δ T (CA e a b) p (on_reaction (cond c (Done n) (Reject (LaterChild p 3))) W (over p)))
+      (λ c. Says es profile Δ T (CA e a b) p (on_reaction (cond c (Ok (Done n)) (Err (LaterChild p 3))) W (over p)))
       (λ q. fine h.table (longer_on f.longer (longer_on g.longer h.longer)) (reads_on h.longer g.reads)
       (typing_case f.derived g.derived (retyped q h.derived))
       (grows_case f.grows f.derived g.grows h.grows))
@@ -336,7 +336,7 @@ module _ (es : List Entry) (profile : ℕ) where
       after _ (x Γ Δ T (suc p) t c) (λ _ _ _ r. in_case_1 r)
       (λ m U σ f. sum_test (shown_fine f)
       (λ b'. Says es profile Δ T (CA e a b) p
-      (on_reaction (cond b' (Next (Second m) (Some (get_or U m empty).left)) (Reject (FirstChild p))) U
+      (on_reaction (cond b' (Ok (Next (Second m) (Some (get_or U m empty).left))) (Err (FirstChild p))) U
       (λ s o. children profile (more (view a) (more (view b) none)) Case 0 p s o Γ U (suc p + tree_size (view e)))))
       (λ α β q l r. let f' = refined q f in
       let c' = context_on f.longer c in

@@ -1,11 +1,20 @@
 -- Frames in numbers. Assumes nothing.
-use Rattle.std.proofs.Common.{◌≡◌, ℕ, zero, suc, ◌+◌, ◌-◌, ◌*◌, ◌^◌, ◌<◌, ◌≤◌, Bool, true, false, List, ◌∷◌, length, get_or, set, refl, ap, arith}
+use Rattle.std.proofs.Common.{◌≡◌, ℕ, zero, suc, ◌+◌, ◌-◌, ◌*◌, ◌/◌, ◌^◌, ◌<◌, ◌≤◌, Bool, true, false, List, ◌∷◌, length, get_or, set, sym, refl, ap, ◌∙◌, arith}
 use Rattle.std.proofs.lemmas.List.{get_or-set_same, get_or-set_other, length-set}
 use Rattle.checker.specs.declared.frame.Awaits.{Awaits}
 use Rattle.checker.specs.declared.frame.Awaits.TheVariants.{First, Second, Third}
 use Rattle.checker.specs.declared.frame.Frame.{Frame}
-use Rattle.checker.specs.Frames.{Small, code_of, kept_of, awaits_of, bound_of, frame, frame_at, stack, put_words_lem, put_frame_lem}
-use Rattle.checker.proofs.Binders.{small_set}
+use Rattle.checker.specs.Awaiting.{code_of, kept_of, awaits_of, bound_of, frame}
+use Rattle.checker.specs.Contexts.{Small}
+use Rattle.checker.specs.Frames.{Stacked, frame_at, stack}
+use Rattle.checker.proofs.Contexts.{small_more}
+
+-- a list with a frame written
+abbrev pub put_words_lem : List ℕ → ℕ → ℕ → ℕ → ℕ → List ℕ
+put_words_lem words i place code kept = set (set (set words (3 * i) place) (3 * i + 1) code) (3 * i + 2) kept
+
+abbrev pub put_frame_lem : List ℕ → ℕ → Frame → List ℕ
+put_frame_lem words i f = put_words_lem words i f.place (code_of f.awaits f.bound) (kept_of f.awaits)
 
 pub stack_step : (w : List ℕ) (d : ℕ) → 0 < d → stack w d ≡ frame_at w (d - 1) ∷ stack w (d - 1)
 stack_step w zero h = absurd (omega arith)
@@ -18,12 +27,10 @@ length_stack w (suc d) = ap suc (length_stack w d)
 -- the numbers of one frame, written
 module _ (w : List ℕ) (i a b c : ℕ) where
   pub words_other : (k : ℕ) → (k ≡ 3 * i → ⊥) → (k ≡ 3 * i + 1 → ⊥) → (k ≡ 3 * i + 2 → ⊥) → get_or (put_words_lem w i a b c) k 0 ≡ get_or w k 0
-  unfolding put_words_lem
   words_other k p q r = rw (get_or-set_other, get_or-set_other, get_or-set_other)
 
   module _ (h : 3 * i + 3 ≤ length w) where
     words_0 : get_or (put_words_lem w i a b c) (3 * i) 0 ≡ a
-    unfolding put_words_lem
     words_0 =
         let p : 3 * i ≡ 3 * i + 1 → ⊥ = omega arith in
         let q : 3 * i ≡ 3 * i + 2 → ⊥ = omega arith in
@@ -31,14 +38,12 @@ module _ (w : List ℕ) (i a b c : ℕ) where
         rw (get_or-set_other, get_or-set_other, get_or-set_same)
 
     words_1 : get_or (put_words_lem w i a b c) (3 * i + 1) 0 ≡ b
-    unfolding put_words_lem
     words_1 =
         let q : 3 * i + 1 ≡ 3 * i + 2 → ⊥ = omega arith in
         let t : 3 * i + 1 < length (set w (3 * i) a) = simp length-set (omega arith) in
         rw (get_or-set_other, get_or-set_same)
 
     words_2 : get_or (put_words_lem w i a b c) (3 * i + 2) 0 ≡ c
-    unfolding put_words_lem
     words_2 =
         let t : 3 * i + 2 < length (set (set w (3 * i) a) (3 * i + 1) b) = simp length-set (omega arith) in
         rw get_or-set_same
@@ -47,11 +52,11 @@ module _ (w : List ℕ) (i a b c : ℕ) where
     unfolding frame_at
     frame_written = rw (words_0, words_1, words_2)
 
-    pub small_words : a < 2 ^ 16 → b < 2 ^ 16 → c < 2 ^ 16 → Small w → Small (put_words_lem w i a b c)
-    unfolding put_words_lem
+    pub small_words : a < 2 ^ 16 → b < 2 ^ 16 → c < 2 ^ 16 → Small w (3 * i) → Small (put_words_lem w i a b c) (3 * (i + 1))
     small_words p q r s =
-        small_set (set (set w (3 * i) a) (3 * i + 1) b) (3 * i + 2) c (simp length-set (omega arith)) r
-        (small_set (set w (3 * i) a) (3 * i + 1) b (simp length-set (omega arith)) q (small_set w (3 * i) a (omega arith) p s))
+        small_more (set (set w (3 * i) a) (3 * i + 1) b) (3 * i + 2) c (3 * (i + 1)) (simp length-set (omega arith)) r (omega arith)
+        (small_more (set w (3 * i) a) (3 * i + 1) b (3 * i + 2) (simp length-set (omega arith)) q (omega arith)
+        (small_more w (3 * i) a (3 * i + 1) (omega arith) p (omega arith) s))
 
   pub frame_other : (j : ℕ) → j < i → frame_at (put_words_lem w i a b c) j ≡ frame_at w j
   unfolding frame_at
@@ -87,7 +92,7 @@ stack_put w i f h =
     let s = stack_other w i f.place (code_of f.awaits f.bound) (kept_of f.awaits) i (omega arith) in
     rw e (cc)
 
-code_small : (a : Awaits) (b : Bool) → code_of a b < 2 ^ 16
+pub code_small : (a : Awaits) (b : Bool) → code_of a b < 2 ^ 16
 code_small First false = omega arith
 code_small First true = omega arith
 code_small (Second t) false = omega arith
@@ -95,11 +100,20 @@ code_small (Second t) true = omega arith
 code_small (Third t) false = omega arith
 code_small (Third t) true = omega arith
 
-pub small_frame : (w : List ℕ) (i : ℕ) (f : Frame) → 3 * i + 3 ≤ length w → f.place < 2 ^ 16 → kept_of f.awaits < 2 ^ 16
-    → Small w → Small (put_frame_lem w i f)
-small_frame w i f h p k s =
-    small_words w i f.place (code_of f.awaits f.bound) (kept_of f.awaits) h p (code_small f.awaits f.bound) k s
+-- Frames in lent numbers.
+abbrev pub piled : List ℕ → ℕ → Stacked
+piled w d = record { frames = stack w d; room = length w / 3 }
 
-pub place_small : (w : List ℕ) (i : ℕ) → Small w → (frame_at w i).place < 2 ^ 16
-unfolding frame_at
-place_small w i s = s (3 * i)
+pub piled_length : (w : List ℕ) (d : ℕ) (v : Stacked) → piled w d ≡ v → (length v.frames ≡ d) × (length w / 3 ≡ v.room)
+piled_length w d v e = (sym (ap (λ (u : Stacked). length u.frames) e) ∙ length_stack w d, ap (λ (u : Stacked). u.room) e)
+
+pub pushed : (w : List ℕ) (d : ℕ) (f : Frame) (a b c : ℕ) (v : Stacked) → 3 * d + 3 ≤ length w
+    → a ≡ f.place → b ≡ code_of f.awaits f.bound → c ≡ kept_of f.awaits → piled w d ≡ v
+    → piled (put_words_lem w d a b c) (d + 1) ≡ record { frames = f ∷ v.frames; room = v.room }
+pushed w d f a b c v h ea eb ec e =
+    let s : stack (put_words_lem w d a b c) (d + 1) ≡ f ∷ stack w d = rw (ea, eb, ec) (stack_put w d f h) in
+    let l : length (put_words_lem w d a b c) ≡ length w = simp length-set in
+    rw (s, l) (ap (λ (u : Stacked). let x : Stacked = record { frames = f ∷ u.frames; room = u.room } in x) e)
+
+pub popped : (w : List ℕ) (d : ℕ) (v : Stacked) → 0 < d → piled w d ≡ v → v.frames ≡ frame_at w (d - 1) ∷ stack w (d - 1)
+popped w d v h e = sym (ap (λ (u : Stacked). u.frames) e) ∙ stack_step w d h

@@ -1,5 +1,5 @@
 -- The machine keeps what `judge` says of the whole tree. Assumes nothing.
-use Rattle.std.proofs.Common.{◌≡◌, ℕ, suc, ◌+◌, ◌<◌, ◌≤◌, List, [], ◌∷◌, length, get_or, drop, is_some, Some, None, Option, sym, refl, ap, ◌∙◌, subst, arith}
+use Rattle.std.proofs.Common.{◌≡◌, ℕ, suc, ◌+◌, ◌<◌, ◌≤◌, List, [], ◌∷◌, length, get_or, drop, is_some, Some, None, Option, sym, refl, ap, ◌∙◌, subst, arith, Ok, Err, Result}
 use Rattle.std.proofs.lemmas.List.{get_or-drop, drop-drop, length-drop}
 use Rattle.refusals.specs.declared.Question.{Question}
 use Rattle.calculus.specs.declared.entry.Entry.{Entry}
@@ -11,17 +11,18 @@ use Rattle.types.proofs.Adding.{with_low, with_most, index_low}
 use Rattle.checker.specs.declared.frame.Awaits.{Awaits}
 use Rattle.checker.specs.declared.frame.Awaits.TheVariants.{First}
 use Rattle.checker.specs.declared.frame.Frame.{Frame}
-use Rattle.checker.specs.declared.machine.Finished.{Finished}
+use Rattle.checker.specs.declared.rules.Finished.{Finished}
 use Rattle.checker.specs.declared.rules.Arrival.{Arrival}
-use Rattle.checker.specs.declared.rules.Arrival.TheVariants.{Known, Waits, Barred}
+use Rattle.checker.specs.declared.rules.Arrival.TheVariants.{Known, Waits}
 use Rattle.checker.specs.declared.rules.Reaction.{Reaction}
-use Rattle.checker.specs.declared.rules.Reaction.TheVariants.{Done, Build, Next, Reject}
-use Rattle.checker.specs.Frames.{kept_of, frame, bind}
+use Rattle.checker.specs.declared.rules.Reaction.TheVariants.{Done, Build, Next}
+use Rattle.checker.specs.Awaiting.{kept_of, frame}
+use Rattle.checker.specs.Contexts.{bind}
 use Rattle.checker.specs.Rules.{arrive, child_of, react}
 use Rattle.checker.specs.Trees.{Tree, tree, Trees, none, more, tree_onto, trees_onto, tree_size, trees_size, many, Whole, Wholes, root}
 use Rattle.checker.specs.Judging.{Outcome, typed, refused, on_outcome, on_arrival, on_reaction, settle, judge, children}
 use Rattle.checker.specs.Machine.{node_at, Step, go, halt, reach_by, reached, take_by, reaction_of, taken}
-use Rattle.checker.proofs.Binders.{unbound}
+use Rattle.checker.proofs.Contexts.{unbound}
 use Rattle.checker.proofs.Fits.{BinderIn, AllIn, ArrivalFits, ReactionFits, NumberIn, number_up, binder_up, PartsIn, react_fits, arrive_fits, parts_with}
 
 -- a frame with the children that are still to come
@@ -111,8 +112,7 @@ pub record Up (profile : ℕ) (N : List Node) (C : ℕ) (o : Outcome) (q : ℕ) 
   pub room : length T + length K < C + q
   pub ahead : drop q N ≡ after K
   pub known : x.ty < length T
-  pub within : x.place < length N
-  pub track : resume profile K q (node_at N x.place).kind (typed x.ty T) ≡ o
+  pub track : resume profile K q x.kind (typed x.ty T) ≡ o
 
 abbrev pub Good : ℕ → List Node → ℕ → Outcome → Step → Type 0
 Good profile N C o (halt r) = r ≡ o
@@ -163,25 +163,19 @@ module _ (profile : ℕ) (N : List Node) (C : ℕ) (o : Outcome) where
       (number_at N C (length T) q n d.base.low l e d.base.numbers) (binders_in N (length T) K d.base.sounds)
 
   frame_fits : (q : ℕ) (f : Pending) (K : List Pending) (T : List Entry) (x : Finished) → Up profile N C o q (f ∷ K) T x
-      → ReactionFits (react profile f.n.kind f.n.number f.p f.a T x.ty (node_at N x.place).kind) (arity f.n.kind) (child_of f.a) (length T)
+      → ReactionFits (react profile f.n.kind f.n.number f.p f.a T x.ty x.kind) (arity f.n.kind) (child_of f.a) (length T)
   frame_fits q f K T x d =
       let s = d.base.sounds.0 in
-      react_fits profile f.n.kind f.n.number f.p f.a T x.ty (node_at N x.place).kind (omega (arith, d.base.given, d.base.low))
+      react_fits profile f.n.kind f.n.number f.p f.a T x.ty x.kind (omega (arith, d.base.given, d.base.low))
       (number_at N C (length T) f.p f.n d.base.low s.within s.here d.base.numbers) d.base.parts s.keeps d.known
 
-  pub up_fits : (q : ℕ) (f : Pending) (K : List Pending) (T : List Entry) (x : Finished) → Up profile N C o q (f ∷ K) T x
-      → ReactionFits (reaction_of profile N (plain f) T x) (arity f.n.kind) (child_of f.a) (length T)
-  up_fits q f K T x d =
-      subst (λ (m : Node). ReactionFits (react profile m.kind m.number f.p f.a T x.ty (node_at N x.place).kind) (arity f.n.kind) (child_of f.a) (length T))
-      (sym d.base.sounds.0.here) (frame_fits q f K T x d)
-
-  reach_good : (q : ℕ) (K : List Pending) (T : List Entry) (n : Node) (ts : Trees) (v : Arrival)
+  reach_good : (q : ℕ) (K : List Pending) (T : List Entry) (n : Node) (ts : Trees) (v : Result Arrival Question)
       → Base N C q K T → length T + length K ≤ C + q → Head N q n (trees_onto ts (after K)) → arity n.kind ≡ many ts → Wholes ts
       → ArrivalFits v (arity n.kind) (length T)
       → resume profile K (q + suc (trees_size ts)) n.kind
       (on_arrival v T (λ b. children profile ts n.kind n.number q First b (binders K) T (suc q))) ≡ o
-      → Good profile N C o (reach_by q (plains K) (binders K) T v)
-  reach_good q K T n none (Known ty) b m h ar w fit e = (
+      → Good profile N C o (reach_by q n.kind (plains K) (binders K) T v)
+  reach_good q K T n none (Ok (Known ty)) b m h ar w fit e = (
     K,
     refl,
     refl,
@@ -190,15 +184,14 @@ module _ (profile : ℕ) (N : List Node) (C : ℕ) (o : Outcome) where
       room = omega arith;
       ahead = h.tail;
       known = fit.1;
-      within = h.lt;
-      track = ap (λ (u : Node). resume profile K (q + 1) u.kind (typed ty T)) h.is ∙ e;
+      track = e;
     },
   )
-  reach_good q K T n (more u ts) (Known ty) b m h ar w fit e = absurd (omega (arith, fit.0))
-  reach_good q K T n none (Barred x) b m h ar w fit e = sym (resume_refused profile K (q + suc (trees_size none)) n.kind x) ∙ e
-  reach_good q K T n (more u ts) (Barred x) b m h ar w fit e = sym (resume_refused profile K (q + suc (trees_size (more u ts))) n.kind x) ∙ e
-  reach_good q K T n none (Waits v) b m h ar w fit e = absurd (omega (arith, fit.0))
-  reach_good q K T n (more u ts) (Waits v) b m h ar w fit e = (
+  reach_good q K T n (more u ts) (Ok (Known ty)) b m h ar w fit e = absurd (omega (arith, fit.0))
+  reach_good q K T n none (Err x) b m h ar w fit e = sym (resume_refused profile K (q + suc (trees_size none)) n.kind x) ∙ e
+  reach_good q K T n (more u ts) (Err x) b m h ar w fit e = sym (resume_refused profile K (q + suc (trees_size (more u ts))) n.kind x) ∙ e
+  reach_good q K T n none (Ok (Waits v)) b m h ar w fit e = absurd (omega (arith, fit.0))
+  reach_good q K T n (more u ts) (Ok (Waits v)) b m h ar w fit e = (
     record { n = n; p = q; a = First; b = v; rest = ts } ∷ K,
     refl,
     refl,
@@ -227,7 +220,7 @@ module _ (profile : ℕ) (N : List Node) (C : ℕ) (o : Outcome) where
   good_reached_at : (q : ℕ) (K : List Pending) (T : List Entry) (t : Tree) → Down profile N C o q K T t → Good profile N C o (reached profile N q (plains K) (binders K) T)
   good_reached_at q K T (tree n ts) d =
       let h = headed N q n (trees_onto ts (after K)) d.ahead in
-      subst (λ (m : Node). Good profile N C o (reach_by q (plains K) (binders K) T (arrive profile m.kind m.number q (binders K)))) (sym h.is)
+      subst (λ (m : Node). Good profile N C o (reach_by q m.kind (plains K) (binders K) T (arrive profile m.kind m.number q (binders K)))) (sym h.is)
       (reach_good q K T n ts (arrive profile n.kind n.number q (binders K)) d.base d.room h d.whole.0 d.whole.1
       (node_fits q K T n ts d h.lt h.is) d.track)
 
@@ -237,14 +230,14 @@ module _ (profile : ℕ) (N : List Node) (C : ℕ) (o : Outcome) where
       subst (λ (G : List Frame). Good profile N C o (reached profile N q G Γ T)) g.1
       (subst (λ (Δ : List ℕ). Good profile N C o (reached profile N q (plains g.0) Δ T)) g.2 (good_reached_at q g.0 T g.3.0 g.3.1))
 
-  take_good : (q : ℕ) (n : Node) (p : ℕ) (a : Awaits) (w : Option ℕ) (rest : Trees) (K : List Pending) (T : List Entry) (v : Reaction)
+  take_good : (q : ℕ) (n : Node) (p : ℕ) (a : Awaits) (w : Option ℕ) (rest : Trees) (K : List Pending) (T : List Entry) (v : Result Reaction Question)
       → Base N C q (record { n = n; p = p; a = a; b = w; rest = rest } ∷ K) T → length T + suc (length K) < C + q
       → drop q N ≡ trees_onto rest (after K)
       → ReactionFits v (arity n.kind) (child_of a) (length T)
       → resume profile K (q + trees_size rest) n.kind
       (on_reaction v T (λ a' b. children profile rest n.kind n.number p a' b (binders K) T q)) ≡ o
-      → Good profile N C o (take_by q (frame p a (is_some w)) (plains K) (binders K) T v)
-  take_good q n p a w none K T (Done ty) b m h fit e =
+      → Good profile N C o (take_by q (frame p a (is_some w)) n.kind (plains K) (binders K) T v)
+  take_good q n p a w none K T (Ok (Done ty)) b m h fit e =
       let s = b.sounds.0 in (
         K,
         refl,
@@ -254,13 +247,10 @@ module _ (profile : ℕ) (N : List Node) (C : ℕ) (o : Outcome) where
           room = omega arith;
           ahead = h;
           known = fit.1;
-          within = s.within;
-          track =
-              let z : q ≡ q + 0 = omega arith in
-              ap (λ (u : Node). resume profile K q u.kind (typed ty T)) s.here ∙ ap (λ (i : ℕ). resume profile K i n.kind (typed ty T)) z ∙ e;
+          track = let z : q ≡ q + 0 = omega arith in ap (λ (i : ℕ). resume profile K i n.kind (typed ty T)) z ∙ e;
         },
       )
-  take_good q n p a w none K T (Build y) b m h fit e =
+  take_good q n p a w none K T (Ok (Build y)) b m h fit e =
       let s = b.sounds.0 in
       let low = with_low T y in
       let most = with_most T y in (
@@ -279,18 +269,16 @@ module _ (profile : ℕ) (N : List Node) (C : ℕ) (o : Outcome) where
           room = omega arith;
           ahead = h;
           known = index_low T y;
-          within = s.within;
           track =
               let z : q ≡ q + 0 = omega arith in
-              ap (λ (u : Node). resume profile K q u.kind (typed (index_of y T) (with_entry T y))) s.here
-              ∙ ap (λ (i : ℕ). resume profile K i n.kind (typed (index_of y T) (with_entry T y))) z ∙ e;
+              ap (λ (i : ℕ). resume profile K i n.kind (typed (index_of y T) (with_entry T y))) z ∙ e;
         },
       )
-  take_good q n p a w none K T (Next c d) b m h fit e = absurd (omega (arith, fit.0, b.sounds.0.turn))
-  take_good q n p a w none K T (Reject x) b m h fit e = sym (resume_refused profile K (q + trees_size none) n.kind x) ∙ e
-  take_good q n p a w (more u ts) K T (Done ty) b m h fit e = absurd (omega (arith, fit.0, b.sounds.0.turn))
-  take_good q n p a w (more u ts) K T (Build y) b m h fit e = absurd (omega (arith, fit.0, b.sounds.0.turn))
-  take_good q n p a w (more u ts) K T (Next c d) b m h fit e =
+  take_good q n p a w none K T (Ok (Next c d)) b m h fit e = absurd (omega (arith, fit.0, b.sounds.0.turn))
+  take_good q n p a w none K T (Err x) b m h fit e = sym (resume_refused profile K (q + trees_size none) n.kind x) ∙ e
+  take_good q n p a w (more u ts) K T (Ok (Done ty)) b m h fit e = absurd (omega (arith, fit.0, b.sounds.0.turn))
+  take_good q n p a w (more u ts) K T (Ok (Build y)) b m h fit e = absurd (omega (arith, fit.0, b.sounds.0.turn))
+  take_good q n p a w (more u ts) K T (Ok (Next c d)) b m h fit e =
       let s = b.sounds.0 in (
         record { n = n; p = p; a = c; b = d; rest = ts } ∷ K,
         refl,
@@ -313,15 +301,15 @@ module _ (profile : ℕ) (N : List Node) (C : ℕ) (o : Outcome) where
           },
         ),
       )
-  take_good q n p a w (more u ts) K T (Reject x) b m h fit e = sym (resume_refused profile K (q + trees_size (more u ts)) n.kind x) ∙ e
+  take_good q n p a w (more u ts) K T (Err x) b m h fit e = sym (resume_refused profile K (q + trees_size (more u ts)) n.kind x) ∙ e
 
   good_taken_at : (q : ℕ) (K : List Pending) (T : List Entry) (x : Finished) → Up profile N C o q K T x → Good profile N C o (taken profile N q (plains K) (binders K) T x)
   good_taken_at q [] T x d = d.track
   good_taken_at q (f ∷ K) T x d =
       let s = d.base.sounds.0 in
-      let h = (node_at N x.place).kind in
-      subst (λ (Δ : List ℕ). Good profile N C o (take_by q (plain f) (plains K) Δ T (reaction_of profile N (plain f) T x))) (sym (unbound f.b (binders K)))
-      (subst (λ (m : Node). Good profile N C o (take_by q (plain f) (plains K) (binders K) T (react profile m.kind m.number f.p f.a T x.ty h))) (sym s.here)
+      let h = x.kind in
+      subst (λ (Δ : List ℕ). Good profile N C o (take_by q (plain f) (node_at N f.p).kind (plains K) Δ T (reaction_of profile N (plain f) T x))) (sym (unbound f.b (binders K)))
+      (subst (λ (m : Node). Good profile N C o (take_by q (plain f) m.kind (plains K) (binders K) T (react profile m.kind m.number f.p f.a T x.ty h))) (sym s.here)
       (take_good q f.n f.p f.a f.b f.rest K T (react profile f.n.kind f.n.number f.p f.a T x.ty h) d.base d.room d.ahead
       (frame_fits q f K T x d) d.track))
 

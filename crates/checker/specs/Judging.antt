@@ -7,7 +7,7 @@
 --   children     the outcome of a node that goes on with the children that are left
 --   judge_term   the outcome of a term at place 0 in the empty context
 -- Assumes nothing.
-use Rattle.std.specs.Prelude.{ℕ, suc, ◌+◌, List, [], Option}
+use Rattle.std.specs.Prelude.{ℕ, suc, ◌+◌, List, [], Option, Ok, Err, Result}
 use Rattle.refusals.specs.declared.Question.{Question}
 use Rattle.refusals.specs.declared.Question.TheVariants.{FirstChild}
 use Rattle.calculus.specs.declared.entry.Entry.{Entry}
@@ -17,10 +17,10 @@ use Rattle.types.specs.Adding.{index_of, with_entry}
 use Rattle.checker.specs.declared.frame.Awaits.{Awaits}
 use Rattle.checker.specs.declared.frame.Awaits.TheVariants.{First}
 use Rattle.checker.specs.declared.rules.Arrival.{Arrival}
-use Rattle.checker.specs.declared.rules.Arrival.TheVariants.{Known, Waits, Barred}
+use Rattle.checker.specs.declared.rules.Arrival.TheVariants.{Known, Waits}
 use Rattle.checker.specs.declared.rules.Reaction.{Reaction}
-use Rattle.checker.specs.declared.rules.Reaction.TheVariants.{Done, Build, Next, Reject}
-use Rattle.checker.specs.Frames.{bind}
+use Rattle.checker.specs.declared.rules.Reaction.TheVariants.{Done, Build, Next}
+use Rattle.checker.specs.Contexts.{bind}
 use Rattle.checker.specs.Rules.{arrive, react}
 use Rattle.checker.specs.Trees.{Tree, tree, Trees, none, more, tree_size, root, view}
 
@@ -32,16 +32,16 @@ abbrev pub on_outcome : Outcome → (ℕ → List Entry → Outcome) → Outcome
 on_outcome (typed ty T) k = k ty T
 on_outcome (refused q) k = refused q
 
-abbrev pub on_arrival : Arrival → List Entry → (Option ℕ → Outcome) → Outcome
-on_arrival (Known ty) T k = typed ty T
-on_arrival (Waits b) T k = k b
-on_arrival (Barred q) T k = refused q
+abbrev pub on_arrival : Result Arrival Question → List Entry → (Option ℕ → Outcome) → Outcome
+on_arrival (Ok (Known ty)) T k = typed ty T
+on_arrival (Ok (Waits b)) T k = k b
+on_arrival (Err q) T k = refused q
 
-abbrev pub on_reaction : Reaction → List Entry → (Awaits → Option ℕ → Outcome) → Outcome
-on_reaction (Done ty) T k = typed ty T
-on_reaction (Build x) T k = typed (index_of x T) (with_entry T x)
-on_reaction (Next a b) T k = k a b
-on_reaction (Reject q) T k = refused q
+abbrev pub on_reaction : Result Reaction Question → List Entry → (Awaits → Option ℕ → Outcome) → Outcome
+on_reaction (Ok (Done ty)) T k = typed ty T
+on_reaction (Ok (Build x)) T k = typed (index_of x T) (with_entry T x)
+on_reaction (Ok (Next a b)) T k = k a b
+on_reaction (Err q) T k = refused q
 
 -- The node of the kind k and the number n at the place p, which awaited a, makes this of its finished child, whose type number
 -- is ty and whose root is of the kind head; then says how it goes on with its next child.

@@ -1,3 +1,6 @@
+pub mod Awaiting
+pub mod Contexts
+pub mod Binders
 pub mod Frames
 pub mod Rules
 pub mod Trees

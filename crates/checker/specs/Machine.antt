@@ -5,33 +5,40 @@
 --   reach_by, reached   what reaching a node comes to
 --   take_by, reaction_of, taken   what finishing a node comes to
 --   stepped       one turn
---   step_after    what a turn of the code came to, by the numbers that hold its frames and binders
+--   site_of       a node, as the code's machine sees it
+--   waiting       the code's machine once a node waits for a child
+--   state_of      the code's machine
+--   state_after, step_after   what the code went on to, or its end
 --   outcome_of    the outcome that an answer of the code stands for
---   count_after   the count of entries after a turn
 --   Keeps         a type table with c entries becomes one with d, of which the first c are the same
---   KeptFits      the type that a frame is to keep has 16 bits
+--   Same          what a turn leaves of the code's machine
 --   ReachReady, TakeReady, Ready   what a turn needs
---   Input         what the machine is given: a rule, a table with its count, and numbers for frames and binders
+--   Input         what the machine is given: a rule, a table with its count, and so many numbers in the scratch list
 -- Assumes nothing.
-use Rattle.std.specs.Prelude.{◌≡◌, ℕ, ◌+◌, ◌-◌, ◌*◌, ◌^◌, ◌<◌, ◌≤◌, true, List, [], ◌∷◌, length, take, is_some, Some, None, Ok, Err, Option, Result, slice_index_or}
+use Rattle.std.specs.Prelude.{◌≡◌, ℕ, ◌+◌, ◌*◌, ◌^◌, ◌<◌, ◌≤◌, true, List, [], ◌∷◌, length, take, is_some, Some, None, Ok, Err, Option, Result, slice_index_or}
+use Rattle.std.specs.declared.ops.ControlFlow.{ControlFlow}
+use Rattle.std.specs.declared.ops.ControlFlow.TheVariants.{Continue, Break}
 use Rattle.refusals.specs.declared.Question.{Question}
 use Rattle.calculus.specs.declared.entry.Entry.{Entry}
+use Rattle.calculus.specs.declared.kind.Kind.{Kind}
 use Rattle.calculus.specs.declared.node.Node.{Node}
 use Rattle.calculus.specs.Kinds.{blank}
 use Rattle.calculus.specs.Tables.{LaidDown}
 use Rattle.terms.specs.Whole.{OneTerm}
 use Rattle.types.specs.Adding.{index_of, with_entry}
+use Rattle.checker.specs.declared.frame.Awaits.{Awaits}
 use Rattle.checker.specs.declared.frame.Awaits.TheVariants.{First}
 use Rattle.checker.specs.declared.frame.Frame.{Frame}
-use Rattle.checker.specs.declared.machine.Finished.{Finished}
-use Rattle.checker.specs.declared.machine.State.{State}
-use Rattle.checker.specs.declared.machine.Turn.{Turn}
-use Rattle.checker.specs.declared.machine.Turn.TheVariants.{Go, Accept, Refuse}
+use Rattle.checker.specs.declared.rules.Finished.{Finished}
+use Rattle.checker.specs.declared.machine.Machine.{Machine}
 use Rattle.checker.specs.declared.rules.Arrival.{Arrival}
-use Rattle.checker.specs.declared.rules.Arrival.TheVariants.{Known, Waits, Barred}
+use Rattle.checker.specs.declared.rules.Arrival.TheVariants.{Known, Waits}
 use Rattle.checker.specs.declared.rules.Reaction.{Reaction}
-use Rattle.checker.specs.declared.rules.Reaction.TheVariants.{Done, Build, Next, Reject}
-use Rattle.checker.specs.Frames.{kept_of, frame, frame_at, stack, context, bind, unbind}
+use Rattle.checker.specs.declared.rules.Reaction.TheVariants.{Done, Build, Next}
+use Rattle.checker.specs.declared.rules.Site.{Site}
+use Rattle.checker.specs.Awaiting.{kept_of, frame}
+use Rattle.checker.specs.Contexts.{bind, unbind}
+use Rattle.checker.specs.Frames.{Stacked}
 use Rattle.checker.specs.Rules.{arrive, react}
 use Rattle.checker.specs.Judging.{Outcome, typed, refused}
 
@@ -43,96 +50,110 @@ pub data Step : Type 0 where
   go : ℕ → List Frame → List ℕ → List Entry → Option Finished → Step
   halt : Outcome → Step
 
-abbrev pub finished : ℕ → ℕ → Option Finished
-finished ty p = Some (record { ty = ty; place = p })
+abbrev pub finished : ℕ → Kind → Option Finished
+finished ty k = Some (record { ty = ty; kind = k })
 
-abbrev pub reach_by : ℕ → List Frame → List ℕ → List Entry → Arrival → Step
-reach_by p F Γ T (Known ty) = go (p + 1) F Γ T (finished ty p)
-reach_by p F Γ T (Waits b) = go (p + 1) (frame p First (is_some b) ∷ F) (bind b Γ) T None
-reach_by p F Γ T (Barred q) = halt (refused q)
+-- of the node of the kind k at the place p
+abbrev pub reach_by : ℕ → Kind → List Frame → List ℕ → List Entry → Result Arrival Question → Step
+reach_by p k F Γ T (Ok (Known ty)) = go (p + 1) F Γ T (finished ty k)
+reach_by p k F Γ T (Ok (Waits b)) = go (p + 1) (frame p First (is_some b) ∷ F) (bind b Γ) T None
+reach_by p k F Γ T (Err q) = halt (refused q)
 
 abbrev pub reached : ℕ → List Node → ℕ → List Frame → List ℕ → List Entry → Step
-reached profile N p F Γ T = reach_by p F Γ T (arrive profile (node_at N p).kind (node_at N p).number p Γ)
+reached profile N p F Γ T = reach_by p (node_at N p).kind F Γ T (arrive profile (node_at N p).kind (node_at N p).number p Γ)
 
--- Γ is the context around the node of the frame f
-abbrev pub take_by : ℕ → Frame → List Frame → List ℕ → List Entry → Reaction → Step
-take_by p f F Γ T (Done ty) = go p F Γ T (finished ty f.place)
-take_by p f F Γ T (Build x) = go p F Γ (with_entry T x) (finished (index_of x T) f.place)
-take_by p f F Γ T (Next a b) = go p (frame f.place a (is_some b) ∷ F) (bind b Γ) T None
-take_by p f F Γ T (Reject q) = halt (refused q)
+-- of the frame f of a node of the kind k; Γ is the context around that node
+abbrev pub take_by : ℕ → Frame → Kind → List Frame → List ℕ → List Entry → Result Reaction Question → Step
+take_by p f k F Γ T (Ok (Done ty)) = go p F Γ T (finished ty k)
+take_by p f k F Γ T (Ok (Build x)) = go p F Γ (with_entry T x) (finished (index_of x T) k)
+take_by p f k F Γ T (Ok (Next a b)) = go p (frame f.place a (is_some b) ∷ F) (bind b Γ) T None
+take_by p f k F Γ T (Err q) = halt (refused q)
 
-abbrev pub reaction_of : ℕ → List Node → Frame → List Entry → Finished → Reaction
+abbrev pub reaction_of : ℕ → List Node → Frame → List Entry → Finished → Result Reaction Question
 reaction_of profile N f T x =
-    react profile (node_at N f.place).kind (node_at N f.place).number f.place f.awaits T x.ty
-    (node_at N x.place).kind
+    react profile (node_at N f.place).kind (node_at N f.place).number f.place f.awaits T x.ty x.kind
 
 abbrev pub taken : ℕ → List Node → ℕ → List Frame → List ℕ → List Entry → Finished → Step
 taken profile N p [] Γ T x = halt (typed x.ty T)
-taken profile N p (f ∷ F) Γ T x = take_by p f F (unbind f.bound Γ) T (reaction_of profile N f T x)
+taken profile N p (f ∷ F) Γ T x = take_by p f (node_at N f.place).kind F (unbind f.bound Γ) T (reaction_of profile N f T x)
 
 abbrev pub stepped : ℕ → List Node → Step → Step
 stepped profile N (go p F Γ T None) = reached profile N p F Γ T
 stepped profile N (go p F Γ T (Some x)) = taken profile N p F Γ T x
 stepped profile N (halt o) = halt o
 
-abbrev pub step_after : Turn → List ℕ → List ℕ → List Entry → Step
-step_after (Go s) w B ts = go s.at (stack w s.depth) (context B s.bound) (take s.count ts) s.done
-step_after (Accept ty c) w B ts = halt (typed ty (take c ts))
-step_after (Refuse q) w B ts = halt (refused q)
+-- a node, as the code's machine sees it
+abbrev pub site_of : Machine → ℕ → Site
+site_of m p = record { profile = m.profile; node = node_at m.nodes.now p; place = p }
+
+-- the code's machine once the node at p waits for a child under the binder b
+abbrev pub waiting : Machine → ℕ → Awaits → Option ℕ → Machine
+waiting m p a b = record m {
+  stack = record { frames = frame p a (is_some b) ∷ m.stack.frames; room = m.stack.room };
+  binders = record { types = bind b m.binders.types; room = m.binders.room };
+  done = None;
+}
+
+-- the code's machine, with the table by then
+abbrev pub state_of : Machine → List Entry → Step
+state_of m T = go m.at m.stack.frames m.binders.types T m.done
+
+abbrev pub state_after : Result (Unit {0}) Question → Machine → List Entry → Step
+state_after (Ok a) m T = state_of m T
+state_after (Err q) m T = halt (refused q)
+
+abbrev pub step_after : Result (ControlFlow ℕ (Unit {0})) Question → Machine → List Entry → Step
+step_after (Ok (Continue a)) m T = state_of m T
+step_after (Ok (Break ty)) m T = halt (typed ty T)
+step_after (Err q) m T = halt (refused q)
 
 abbrev pub outcome_of : Result (ℕ × ℕ) Question → List Entry → Outcome
 outcome_of (Ok a) ts = typed a.0 (take a.1 ts)
 outcome_of (Err q) ts = refused q
-
-abbrev pub count_after : State → Turn → ℕ
-count_after s (Go s') = s'.count
-count_after s (Accept ty c) = c
-count_after s (Refuse q) = s.count
 
 pub record Keeps (c d : ℕ) (ts us : List Entry) : Type 0 where
   pub low : c ≤ d
   pub most : d ≤ length us
   pub front : take c us ≡ take c ts
 
-pub record ReachReady (N : List Node) (w B : List ℕ) (s : State) : Type 0 where
-  pub here : s.at < length N
-  pub next : s.at + 1 < 2 ^ 16
-  pub room : 3 * s.depth + 3 ≤ length w
-  pub slot : s.bound < length B
+-- the rule, the profile and the room of a machine stay
+pub record Same (m m' : Machine) : Type 0 where
+  pub nodes : m'.nodes.now ≡ m.nodes.now
+  pub profile : m'.profile ≡ m.profile
+  pub frames : m'.stack.room ≡ m.stack.room
+  pub binders : m'.binders.room ≡ m.binders.room
 
-abbrev pub KeptFits : Reaction → Type 0
-KeptFits (Done ty) = Unit {0}
-KeptFits (Build x) = Unit {0}
-KeptFits (Next a b) = kept_of a < 2 ^ 16
-KeptFits (Reject q) = Unit {0}
+pub record ReachReady (m : Machine) : Type 0 where
+  pub here : m.at < length m.nodes.now
+  pub next : m.at + 1 < 2 ^ 16
+  pub room : length m.stack.frames < m.stack.room
+  pub slot : length m.binders.types < m.binders.room
 
-pub record TakeReady (profile : ℕ) (N : List Node) (ts : List Entry) (w B : List ℕ) (s : State) (x : Finished) : Type 0 where
-  pub deep : 0 < s.depth
-  pub room : 3 * s.depth ≤ length w
-  pub slot : s.bound < length B
-  pub binder : (frame_at w (s.depth - 1)).bound ≡ true → 0 < s.bound
-  pub place : (frame_at w (s.depth - 1)).place < length N
-  pub within : x.place < length N
-  pub known : x.ty < s.count
-  pub kept : kept_of (frame_at w (s.depth - 1)).awaits < s.count
-  pub spare : s.count < length ts
-  pub few : s.count < 2 ^ 16
-  pub fits : KeptFits (reaction_of profile N (frame_at w (s.depth - 1)) (take s.count ts) x)
+-- of the frame f, which was taken off, and the finished child x
+pub record TakeReady (m : Machine) (ts : List Entry) (f : Frame) (x : Finished) : Type 0 where
+  pub room : length m.stack.frames < m.stack.room
+  pub slot : length m.binders.types < m.binders.room
+  pub binder : f.bound ≡ true → 0 < length m.binders.types
+  pub place : f.place < length m.nodes.now
+  pub known : x.ty < m.count
+  pub kept : kept_of f.awaits < m.count
+  pub spare : m.count < length ts
+  pub few : m.count < 2 ^ 16
 
-abbrev pub ReadyBy : ℕ → List Node → List Entry → List ℕ → List ℕ → State → Option Finished → Type 0
-ReadyBy profile N ts w B s None = ReachReady N w B s
-ReadyBy profile N ts w B s (Some x) = 0 < s.depth → TakeReady profile N ts w B s x
+abbrev pub ReadyBy : Machine → List Entry → Option Finished → Type 0
+ReadyBy m ts None = ReachReady m
+ReadyBy m ts (Some x) =
+    (f : Frame) (s : Stacked) → m.stack.frames ≡ f ∷ s.frames → s.room ≡ m.stack.room → TakeReady (record m { stack = s }) ts f x
 
-pub record Ready (profile : ℕ) (N : List Node) (ts : List Entry) (w B : List ℕ) (s : State) : Type 0 where
-  pub counts : s.count ≤ length ts
-  pub by : ReadyBy profile N ts w B s s.done
+pub record Ready (m : Machine) (ts : List Entry) : Type 0 where
+  pub counts : m.count ≤ length ts
+  pub by : ReadyBy m ts m.done
 
-pub record Input (N : List Node) (ts : List Entry) (C : ℕ) (w B : List ℕ) : Type 0 where
+pub record Input (N : List Node) (ts : List Entry) (C : ℕ) (words : ℕ) : Type 0 where
   pub term : OneTerm C N
   pub table : LaidDown (take C ts)
   pub given : 6 ≤ C
   pub few_nodes : length N ≤ 4096
   pub few_types : C ≤ 1030
   pub types : C + length N ≤ length ts
-  pub words : 3 * length N ≤ length w
-  pub slots : length N ≤ length B
+  pub room : 4 * length N ≤ words

@@ -26,7 +26,9 @@ impl<'a> Acceptance<'a> {
     ) -> Acceptance<'a>
         requires { ∥ ((t : Term) × (flat t ≡ nodes.now) × Accepted t type_number profile) ∥₁ }
         ensures nodes { result.nodes ≡ nodes.entry }
-        ensures numbers { (result.type_number ≡ type_number) × (result.count ≡ count) × (result.profile ≡ profile) }
+        ensures type_number { result.type_number ≡ type_number }
+        ensures count { result.count ≡ count }
+        ensures profile { result.profile ≡ profile }
     {
         Acceptance {
             nodes,

@@ -1,5 +1,5 @@
 // Check: whether a rule has a type.
-ghost use Rattle.std.specs.Prelude.{◌≡◌, ◌-◌, ◌≤◌, true, false, ◌++◌, length, take, replicate, MatchOption, MatchResult};
+ghost use Rattle.std.specs.Prelude.{◌≡◌, ◌-◌, ◌≤◌, true, false, ◌++◌, length, take, replicate, MatchResult};
 ghost use Rattle.calculus.specs.Forms.{empty};
 ghost use Rattle.checker.specs.Checking.{in_check, zeros, Checkable, Uncheckable, AcceptCall, RejectCall, RefuseCall, Exactly};
 
@@ -15,29 +15,26 @@ use types::table::counts_fit;
 fn refused(question: Question) -> Refusal
     ensures value { result ≡ in_check question }
 {
-    Refusal {
-        layer: Layer::Check,
-        question,
-    }
+    Layer::Check.refuse(question)
 }
 
-// Questions 10 to 13.
-fn check_fault(nodes: &[Node], types: &[Entry], count: usize, words: usize) -> Option<Question>
-    ensures first { MatchOption result (Checkable nodes.now types.now count words) (λ q. Uncheckable nodes.now types.now count words q) }
+// Questions 10 to 13. A place has 16 bits, so `as` loses nothing: TryFrom would add an error that never comes.
+fn admit(nodes: &[Node], types: &[Entry], count: usize, words: usize) -> Result<(), Question>
+    ensures first { MatchResult result (λ _. Checkable nodes.now types.now count words) (λ q. Uncheckable nodes.now types.now count words q) }
 {
     if !counts_fit(nodes.len(), types.len(), count) {
-        return Some(Question::Counts);
+        return Err(Question::Counts);
     }
     if types.len() < count + nodes.len() || words < 4 * nodes.len() {
-        return Some(Question::CheckRoom);
+        return Err(Question::CheckRoom);
     }
     if let Some(k) = types::table::first_fault(&types[0..count]) {
-        return Some(Question::EntryLaid { place: k as u16 });
+        return Err(Question::EntryLaid { place: k as u16 });
     }
     if let Some(k) = terms::first_fault(nodes, count) {
-        return Some(Question::OneTerm { place: k as u16 });
+        return Err(Question::OneTerm { place: k as u16 });
     }
-    None
+    Ok(())
 }
 
 // Blanks the type table from an entry on, and fills the scratch list with zeros.
@@ -62,9 +59,7 @@ fn judge_rule(
     requires { Checkable nodes.now types.old count (length scratch.old) }
     ensures judged { MatchResult result (λ a. AcceptCall nodes.now types.old count (length scratch.old) profile a.0 a.1 types.new scratch.new) (λ q. RejectCall nodes.now types.old count (length scratch.old) profile q types.new scratch.new) }
 {
-    scratch.fill(0);
-    let (frames, binders) = scratch.split_at_mut(3 * nodes.len());
-    match judge_nodes(nodes, profile, types, count, frames, binders) {
+    match judge_nodes(nodes, profile, types, count, scratch) {
         Ok((type_number, grown)) => {
             clear(types, grown, scratch);
             Ok((type_number, grown))
@@ -93,12 +88,8 @@ pub fn check<'a, H: Host>(
     ensures exactly { MatchResult result (λ a. Exactly nodes.now types.old count (length scratch.old) (H.meaning host.old).profile true (take a.count types.new)) (λ e. Exactly nodes.now types.old count (length scratch.old) (H.meaning host.old).profile false (take count types.new)) }
     ensures kept { H.meaning host.new ≡ H.meaning host.old }
 {
-    if let Some(question) = check_fault(nodes, types, count, scratch.len()) {
-        return Err(refused(question));
-    }
+    admit(nodes, types, count, scratch.len()).map_err(refused)?;
     let profile = host.profile();
-    match judge_rule(nodes, profile, types, count, scratch) {
-        Ok((type_number, grown)) => Ok(Acceptance::new(nodes, type_number, grown, profile)),
-        Err(question) => Err(refused(question)),
-    }
+    let (type_number, grown) = judge_rule(nodes, profile, types, count, scratch).map_err(refused)?;
+    Ok(Acceptance::new(nodes, type_number, grown, profile))
 }

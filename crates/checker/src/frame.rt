@@ -1,7 +1,8 @@
-// Frames: what an unfinished node waits for, and how frames and binders stand in the scratch list.
-ghost use Rattle.std.specs.Prelude.{◌≡◌, ℕ, ◌+◌, ◌*◌, ◌<◌, ◌≤◌, true, List, length};
-ghost use Rattle.std.specs.List.{slice_get};
-ghost use Rattle.checker.specs.Frames.{Small, code_of, kept_of, awaits_of, bound_of, frame_at, put_words_lem, put_frame_lem, context, bind, unbind};
+// Frames: what an unfinished node waits for, and how frames stand in the scratch list.
+ghost use Rattle.std.specs.Prelude.{◌≡◌, ◌/◌, ◌<◌, [], ◌∷◌, length, IfSome, IfNone};
+ghost use Rattle.checker.specs.Awaiting.{code_of, kept_of, awaits_of, bound_of, frame};
+
+use std::marker::Model;
 
 // The child that an unfinished node waits for, with the type number that it keeps until then: the second child with the type
 // of the first, the third with the type of the second.
@@ -20,108 +21,99 @@ pub struct Frame {
     pub bound: bool,
 }
 
-// A frame is three numbers: its place; the number of the awaited child, and 3 more where it stands under a binder; the kept
-// type.
-pub fn code(awaits: Awaits, bound: bool) -> u32
-    ensures { result ≡ code_of awaits bound }
-{
-    match (awaits, bound) {
-        (Awaits::First, false) => 1,
-        (Awaits::Second(_), false) => 2,
-        (Awaits::Third(_), false) => 3,
-        (Awaits::First, true) => 4,
-        (Awaits::Second(_), true) => 5,
-        (Awaits::Third(_), true) => 6,
+impl Frame {
+    // The number of the awaited child, and 3 more where it stands under a binder: the scratch list holds numbers alone.
+    fn code(self) -> u32
+        ensures value { result ≡ code_of self.awaits self.bound }
+    {
+        match (self.awaits, self.bound) {
+            (Awaits::First, false) => 1,
+            (Awaits::Second(_), false) => 2,
+            (Awaits::Third(_), false) => 3,
+            (Awaits::First, true) => 4,
+            (Awaits::Second(_), true) => 5,
+            (Awaits::Third(_), true) => 6,
+        }
     }
-}
 
-fn kept(awaits: Awaits) -> u16
-    ensures { result ≡ kept_of awaits }
-{
-    match awaits {
-        Awaits::First => 0,
-        Awaits::Second(kept) => kept,
-        Awaits::Third(kept) => kept,
+    // The kept type, or 0.
+    fn kept(self) -> u16
+        ensures value { result ≡ kept_of self.awaits }
+    {
+        match self.awaits {
+            Awaits::First => 0,
+            Awaits::Second(kept) | Awaits::Third(kept) => kept,
+        }
     }
-}
 
-fn awaited(code: u32, kept: u16) -> Awaits
-    ensures { result ≡ awaits_of code kept }
-{
-    match code {
-        1 | 4 => Awaits::First,
-        2 | 5 => Awaits::Second(kept),
-        _ => Awaits::Third(kept),
-    }
-}
-
-// The frame number i from the bottom.
-pub fn frame_at(words: &[u32], i: usize) -> Frame
-    requires { (3 * i + 3 ≤ length words.now) × (Small words.now) }
-    ensures value { result ≡ frame_at words.now i }
-{
-    let code = words[3 * i + 1];
-    let kept = words[3 * i + 2] as u16;
-    Frame {
-        place: words[3 * i] as u16,
-        awaits: awaited(code, kept),
-        bound: code > 3,
-    }
-}
-
-fn put_words(words: &mut [u32], i: usize, place: u32, code: u32, kept: u32)
-    requires { 3 * i + 3 ≤ length words.old }
-    ensures after { words.new ≡ put_words_lem words.old i place code kept }
-{
-    words[3 * i] = place;
-    words[3 * i + 1] = code;
-    words[3 * i + 2] = kept;
-}
-
-// Writes the frame number i from the bottom.
-pub fn put_frame(words: &mut [u32], i: usize, frame: Frame)
-    requires { 3 * i + 3 ≤ length words.old }
-    ensures after { words.new ≡ put_frame_lem words.old i frame }
-{
-    let code = code(frame.awaits, frame.bound);
-    let kept = kept(frame.awaits);
-    put_words(words, i, frame.place as u32, code, kept as u32);
-}
-
-// The type of the variable with this index, where the first `bound` numbers are the types of the binders around it, the
-// innermost last.
-pub fn binder_type(binders: &[u32], bound: usize, index: u16) -> Option<u16>
-    requires { (bound ≤ length binders.now) × (Small binders.now) }
-    ensures value { result ≡ slice_get (context binders.now bound) index }
-{
-    let outward = index as usize;
-    if outward < bound {
-        Some(binders[bound - 1 - outward] as u16)
-    } else {
-        None
-    }
-}
-
-// Puts a binder, if there is one, inside those that are there, and says how many there are then.
-pub fn push_binder(binders: &mut [u32], bound: usize, binder: Option<u16>) -> usize
-    requires { (bound < length binders.old) × (Small binders.old) }
-    ensures context { context binders.new result ≡ bind binder (context binders.old bound) }
-    ensures small { Small binders.new }
-{
-    match binder {
-        None => bound,
-        Some(number) => {
-            binders[bound] = number as u32;
-            bound + 1
+    // The frame at this place with this code and this kept type.
+    fn coded(place: u16, code: u32, kept: u16) -> Frame
+        ensures value { result ≡ frame place (awaits_of code kept) (bound_of code) }
+    {
+        let awaits = match code {
+            1 | 4 => Awaits::First,
+            2 | 5 => Awaits::Second(kept),
+            _ => Awaits::Third(kept),
+        };
+        Frame {
+            place,
+            awaits,
+            bound: code > 3,
         }
     }
 }
 
-// How many binders there are once the innermost has been left, if it is to be left.
-pub fn pop_binder(bound: usize, leaves: bool) -> usize
-    requires { leaves ≡ true → 0 < bound }
-    ensures context { (binders : List ℕ) → context binders result ≡ unbind leaves (context binders bound) }
-    ensures most { result ≤ bound }
-{
-    if leaves { bound - 1 } else { bound }
+// The frames of the unfinished nodes, in lent numbers, three to a frame: its place, its code, its kept type. A clause sees the
+// frames, the topmost first, and for how many there is room. Each number has 16 bits, so `as` loses nothing when it is read.
+#[derive(Drop)]
+pub struct Stack<'a> {
+    words: &'a mut [u32],
+    depth: usize,
+}
+
+impl<'a> Model for Stack<'a> {
+    ghost use Rattle.checker.specs.Frames.{Stacked, stacked, IsStack};
+
+    ghost Value = { Stacked };
+
+    ghost view = { stacked };
+
+    ghost invariant = { IsStack };
+}
+
+impl<'a> Stack<'a> {
+    // No frames.
+    pub fn new(words: &'a mut [u32]) -> Stack<'a>
+        ensures value { result ≡ record { frames = []; room = length words.old / 3 } }
+    {
+        Stack { words, depth: 0 }
+    }
+
+    // Puts a frame on top.
+    pub fn push(&mut self, frame: Frame)
+        requires room { length self.old.frames < self.old.room }
+        ensures after { self.new ≡ record self.old { frames = frame ∷ self.old.frames } }
+    {
+        let at = 3 * self.depth;
+        self.words[at] = u32::from(frame.place);
+        self.words[at + 1] = frame.code();
+        self.words[at + 2] = u32::from(frame.kept());
+        self.depth += 1;
+    }
+
+    // Takes the topmost frame off, if there is one.
+    pub fn pop(&mut self) -> Option<Frame>
+        ensures none { IfNone result (self.old.frames ≡ []) }
+        ensures top { IfSome result (λ f. self.old.frames ≡ f ∷ self.new.frames) }
+        ensures room { self.new.room ≡ self.old.room }
+    {
+        if self.depth == 0 {
+            return None;
+        }
+        let top = self.depth - 1;
+        self.depth = top;
+        let place = self.words[3 * top] as u16;
+        let kept = self.words[3 * top + 2] as u16;
+        Some(Frame::coded(place, self.words[3 * top + 1], kept))
+    }
 }

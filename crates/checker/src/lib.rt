@@ -2,6 +2,7 @@
 #![tactic(auto)]
 
 pub mod acceptance;
+mod binders;
 pub mod check;
 mod frame;
 pub mod laws;

@@ -1,172 +1,132 @@
 // The checker as a machine: it goes through the nodes once, and keeps the unfinished ones as frames in lent numbers.
-ghost use Rattle.std.specs.Prelude.{◌≡◌, ◌-◌, ◌≤◌, List, length, take, IfOk};
+ghost use Rattle.std.specs.Prelude.{◌≡◌, ◌<◌, ◌≤◌, List, length, take, IfOk};
 ghost use Rattle.calculus.specs.declared.entry.Entry.{Entry as Row};
 ghost use Rattle.calculus.specs.Syntax.{Term, flat};
-ghost use Rattle.checker.specs.declared.machine.Turn.TheVariants.{Go};
-ghost use Rattle.checker.specs.Frames.{Small, frame_at, stack, context, unbind};
+ghost use Rattle.checker.specs.Contexts.{unbind};
 ghost use Rattle.checker.specs.Judging.{judge_term};
-ghost use Rattle.checker.specs.Machine.{Input, Keeps, count_after, reached, take_by, reaction_of, step_after, outcome_of, ReachReady, TakeReady, Ready, stepped};
+ghost use Rattle.checker.specs.Machine.{Input, Keeps, Same, node_at, reached, take_by, reaction_of, site_of, waiting, state_of, state_after, step_after, outcome_of, ReachReady, TakeReady, Ready, stepped};
 
-use crate::frame::{Awaits, Frame, frame_at, pop_binder, push_binder, put_frame};
-use crate::rules::{Arrival, Reaction, reach, take_child};
+use crate::binders::Binders;
+use crate::frame::{Awaits, Frame, Stack};
+use crate::rules::{Arrival, Finished, Reaction, Site};
 use calculus::entry::Entry;
 use calculus::node::Node;
 use refusals::Question;
+use std::ops::ControlFlow;
 use types::table::add;
 
-// A finished node: the number of its type, and where it stands.
-#[derive(Clone, Copy)]
-pub struct Finished {
-    pub ty: u16,
-    pub place: u16,
+// The rule and the profile, the frames and the binders; the place of the next node, how many entries the type table has, and
+// the node that has just been finished, if any.
+// Each has a lifetime of its own, since a function that makes a machine gets no proof where they share one. The type table is
+// lent to each turn and stands in no struct with its count, which is no plainer: a caller would know the table after such a
+// struct only if every method had a clause that its reference is the same, and the struct a Drop by hand.
+#[derive(Drop)]
+pub struct Machine<'n, 's, 'b> {
+    nodes: &'n [Node],
+    profile: u32,
+    stack: Stack<'s>,
+    binders: Binders<'b>,
+    at: u16,
+    count: usize,
+    done: Option<Finished>,
 }
 
-// The place of the next node, how many frames and binders there are, how many entries the table has, and the node that has
-// just been finished, if any.
-#[derive(Clone, Copy)]
-pub struct State {
-    pub at: u16,
-    pub depth: usize,
-    pub bound: usize,
-    pub count: usize,
-    pub done: Option<Finished>,
-}
-
-// What a turn comes to: another turn, the type and the count of entries, or a refusal.
-#[derive(Clone, Copy)]
-pub enum Turn {
-    Go(State),
-    Accept(u16, usize),
-    Refuse(Question),
-}
-
-// The next node is reached.
-fn descend(nodes: &[Node], profile: u32, frames: &mut [u32], binders: &mut [u32], st: State) -> Turn
-    requires ready { ReachReady nodes.now frames.old binders.old st }
-    requires small { Small frames.old × Small binders.old }
-    ensures step { (ts : List Row) → step_after result frames.new binders.new ts ≡ reached profile nodes.now st.at (stack frames.old st.depth) (context binders.old st.bound) (take st.count ts) }
-    ensures small { Small frames.new × Small binders.new }
-    ensures count { count_after st result ≡ st.count }
-{
-    let node = nodes[st.at as usize];
-    match reach(profile, node, st.at, binders, st.bound) {
-        Arrival::Known(ty) => Turn::Go(State {
-            at: st.at + 1,
-            depth: st.depth,
-            bound: st.bound,
-            count: st.count,
-            done: Some(Finished { ty, place: st.at }),
-        }),
-        Arrival::Barred(question) => Turn::Refuse(question),
-        Arrival::Waits(binder) => {
-            let frame = Frame {
-                place: st.at,
-                awaits: Awaits::First,
-                bound: binder.is_some(),
-            };
-            put_frame(frames, st.depth, frame);
-            let bound = push_binder(binders, st.bound, binder);
-            Turn::Go(State {
-                at: st.at + 1,
-                depth: st.depth + 1,
-                bound,
-                count: st.count,
-                done: None,
-            })
+impl<'n, 's, 'b> Machine<'n, 's, 'b> {
+    // The node at a place.
+    fn site(&self, place: u16) -> Site
+        requires within { place < length self.now.nodes.now }
+        ensures value { result ≡ site_of self.now place }
+    {
+        Site {
+            profile: self.profile,
+            node: self.nodes[usize::from(place)],
+            place,
         }
     }
-}
 
-// The node in the topmost frame takes its finished child.
-fn ascend(
-    nodes: &[Node],
-    profile: u32,
-    types: &mut [Entry],
-    frames: &mut [u32],
-    binders: &mut [u32],
-    st: State,
-    x: Finished,
-) -> Turn
-    requires ready { TakeReady profile nodes.now types.old frames.old binders.old st x }
-    requires small { Small frames.old × Small binders.old }
-    ensures step { step_after result frames.new binders.new types.new ≡ take_by st.at (frame_at frames.old (st.depth - 1)) (stack frames.old (st.depth - 1)) (unbind (frame_at frames.old (st.depth - 1)).bound (context binders.old st.bound)) (take st.count types.old) (reaction_of profile nodes.now (frame_at frames.old (st.depth - 1)) (take st.count types.old) x) }
-    ensures small { Small frames.new × Small binders.new }
-    ensures keeps { Keeps st.count (count_after st result) types.old types.new }
-{
-    let top = st.depth - 1;
-    let frame = frame_at(frames, top);
-    let node = nodes[frame.place as usize];
-    let head = nodes[x.place as usize].kind;
-    let count = st.count;
-    let bound = pop_binder(st.bound, frame.bound);
-    let known = &types[0..count];
-    match take_child(profile, node, frame.place, frame.awaits, known, x.ty, head) {
-        Reaction::Done(ty) => Turn::Go(State {
-            at: st.at,
-            depth: top,
-            bound,
-            count,
-            done: Some(Finished {
-                ty,
-                place: frame.place,
-            }),
-        }),
-        Reaction::Build(entry) => {
-            let (ty, grown) = add(types, count, entry);
-            Turn::Go(State {
-                at: st.at,
-                depth: top,
-                bound,
-                count: grown,
-                done: Some(Finished {
-                    ty,
-                    place: frame.place,
-                }),
-            })
-        }
-        Reaction::Next(awaits, binder) => {
-            let next = Frame {
-                place: frame.place,
-                awaits,
-                bound: binder.is_some(),
-            };
-            put_frame(frames, top, next);
-            let bound = push_binder(binders, bound, binder);
-            Turn::Go(State {
-                at: st.at,
-                depth: st.depth,
-                bound,
-                count,
-                done: None,
-            })
-        }
-        Reaction::Reject(question) => Turn::Refuse(question),
+    // The node at a place is to wait for this child, under a binder of this type if there is one.
+    fn wait(&mut self, place: u16, awaits: Awaits, binder: Option<u16>)
+        requires room { length self.old.stack.frames < self.old.stack.room }
+        requires slot { length self.old.binders.types < self.old.binders.room }
+        ensures after { self.new ≡ waiting self.old place awaits binder }
+    {
+        self.stack.push(Frame {
+            place,
+            awaits,
+            bound: binder.is_some(),
+        });
+        self.binders.enter(binder);
+        self.done = None;
     }
-}
 
-// One turn of the machine.
-fn turn_once(
-    nodes: &[Node],
-    profile: u32,
-    types: &mut [Entry],
-    frames: &mut [u32],
-    binders: &mut [u32],
-    st: State,
-) -> Turn
-    requires ready { Ready profile nodes.now types.old frames.old binders.old st }
-    requires small { Small frames.old × Small binders.old }
-    ensures step { step_after result frames.new binders.new types.new ≡ stepped profile nodes.now (step_after (Go st) frames.old binders.old types.old) }
-    ensures small { Small frames.new × Small binders.new }
-    ensures keeps { Keeps st.count (count_after st result) types.old types.new }
-{
-    match st.done {
-        None => descend(nodes, profile, frames, binders, st),
-        Some(x) => {
-            if st.depth == 0 {
-                Turn::Accept(x.ty, st.count)
-            } else {
-                ascend(nodes, profile, types, frames, binders, st, x)
+    // The next node is reached.
+    fn descend(&mut self) -> Result<(), Question>
+        requires ready { ReachReady self.old }
+        ensures step { (T : List Row) → state_after result self.new T ≡ reached self.old.profile self.old.nodes.now self.old.at self.old.stack.frames self.old.binders.types T }
+        ensures same { Same self.old self.new }
+        ensures count { self.new.count ≡ self.old.count }
+    {
+        let place = self.at;
+        let site = self.site(place);
+        let kind = site.node.kind;
+        let arrival = site.reach(&self.binders)?;
+        self.at = place + 1;
+        match arrival {
+            Arrival::Known(ty) => {
+                self.done = Some(Finished { ty, kind });
+                Ok(())
             }
+            Arrival::Waits(binder) => {
+                self.wait(place, Awaits::First, binder);
+                Ok(())
+            }
+        }
+    }
+
+    // The node of this frame, which was taken off the stack, takes its finished child.
+    fn ascend(&mut self, types: &mut [Entry], frame: Frame, child: Finished) -> Result<(), Question>
+        requires ready { TakeReady self.old types.old frame child }
+        ensures step { state_after result self.new (take self.new.count types.new) ≡ take_by self.old.at frame (node_at self.old.nodes.now frame.place).kind self.old.stack.frames (unbind frame.bound self.old.binders.types) (take self.old.count types.old) (reaction_of self.old.profile self.old.nodes.now frame (take self.old.count types.old) child) }
+        ensures same { Same self.old self.new }
+        ensures keeps { Keeps self.old.count self.new.count types.old types.new }
+    {
+        let place = frame.place;
+        let site = self.site(place);
+        let kind = site.node.kind;
+        let known = &types[0..self.count];
+        let reaction = site.take_child(frame.awaits, known, child)?;
+        self.binders.leave(frame.bound);
+        match reaction {
+            Reaction::Done(ty) => {
+                self.done = Some(Finished { ty, kind });
+                Ok(())
+            }
+            Reaction::Build(entry) => {
+                let (ty, grown) = add(types, self.count, entry);
+                self.count = grown;
+                self.done = Some(Finished { ty, kind });
+                Ok(())
+            }
+            Reaction::Next(awaits, binder) => {
+                self.wait(place, awaits, binder);
+                Ok(())
+            }
+        }
+    }
+
+    // One turn: on, or to the end with the number of the rule's type.
+    fn turn(&mut self, types: &mut [Entry]) -> Result<ControlFlow<u16>, Question>
+        requires ready { Ready self.old types.old }
+        ensures step { step_after result self.new (take self.new.count types.new) ≡ stepped self.old.profile self.old.nodes.now (state_of self.old (take self.old.count types.old)) }
+        ensures same { Same self.old self.new }
+        ensures keeps { Keeps self.old.count self.new.count types.old types.new }
+    {
+        match self.done {
+            None => self.descend().map(ControlFlow::Continue),
+            Some(child) => match self.stack.pop() {
+                None => Ok(ControlFlow::Break(child.ty)),
+                Some(frame) => self.ascend(types, frame, child).map(ControlFlow::Continue),
+            },
         }
     }
 }
@@ -177,27 +137,29 @@ pub fn judge_nodes(
     profile: u32,
     types: &mut [Entry],
     count: usize,
-    frames: &mut [u32],
-    binders: &mut [u32],
+    scratch: &mut [u32],
 ) -> Result<(u16, usize), Question>
-    requires ready { Input nodes.now types.old count frames.old binders.old }
-    requires small { Small frames.old × Small binders.old }
+    requires ready { Input nodes.now types.old count (length scratch.old) }
     ensures judged { (t : Term) → flat t ≡ nodes.now → outcome_of result types.new ≡ judge_term profile t (take count types.old) }
     ensures front { take count types.new ≡ take count types.old }
-    ensures within { IfOk result (λ a. (count ≤ a.1) × (a.1 ≤ length types.new)) }
+    ensures low { IfOk result (λ a. count ≤ a.1) }
+    ensures within { IfOk result (λ a. a.1 ≤ length types.new) }
 {
-    let mut st = State {
+    let (frames, binders) = scratch.split_at_mut(3 * nodes.len());
+    let stack = Stack::new(frames);
+    let binders = Binders::new(binders);
+    let mut machine = Machine {
+        nodes,
+        profile,
+        stack,
+        binders,
         at: 0,
-        depth: 0,
-        bound: 0,
         count,
         done: None,
     };
     'turns: loop {
-        match turn_once(nodes, profile, types, frames, binders, st) {
-            Turn::Go(next) => st = next,
-            Turn::Accept(ty, grown) => return Ok((ty, grown)),
-            Turn::Refuse(question) => return Err(question),
+        if let ControlFlow::Break(ty) = machine.turn(types)? {
+            return Ok((ty, machine.count));
         }
     }
 }

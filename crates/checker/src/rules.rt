@@ -1,9 +1,12 @@
 // The typing rules, one node at a time: what a node does when it is reached, and what it does with a finished child.
-ghost use Rattle.std.specs.Prelude.{◌≡◌, ◌<◌, ◌≤◌, length};
-ghost use Rattle.checker.specs.Frames.{Small, kept_of, context};
+ghost use Rattle.std.specs.Prelude.{◌≡◌, ◌<◌, length};
+ghost use Rattle.std.specs.Option.{ok_or};
+ghost use Rattle.checker.specs.Awaiting.{kept_of};
 ghost use Rattle.checker.specs.Rules.{answer_type, answered_by, first, second, third, react, arrive};
+ghost use Rattle.refusals.specs.declared.Question.TheVariants.{QuestionKnown};
 
-use crate::frame::{Awaits, binder_type};
+use crate::binders::Binders;
+use crate::frame::Awaits;
 use calculus::entry::Entry;
 use calculus::form::Form;
 use calculus::kind::Kind;
@@ -11,18 +14,16 @@ use calculus::node::Node;
 use hosts::line::digit_of;
 use refusals::Question;
 
-// What is done on reaching a node.
+// How a node goes on when it is reached.
 #[derive(Clone, Copy)]
 pub enum Arrival {
     // its type is known
     Known(u16),
     // it waits for its first child, under a binder of this type if there is one
     Waits(Option<u16>),
-    // it cannot have a type
-    Barred(Question),
 }
 
-// What a node does with a finished child.
+// How a node goes on with a finished child.
 #[derive(Clone, Copy)]
 pub enum Reaction {
     // it has this type
@@ -31,8 +32,21 @@ pub enum Reaction {
     Build(Entry),
     // it waits for its next child, under a binder of this type if there is one
     Next(Awaits, Option<u16>),
-    // the child does not fit
-    Reject(Question),
+}
+
+// A finished node: the number of its type, and its kind.
+#[derive(Clone, Copy)]
+pub struct Finished {
+    pub ty: u16,
+    pub kind: Kind,
+}
+
+// A node at its place, under a host's profile.
+#[derive(Clone, Copy)]
+pub struct Site {
+    pub profile: u32,
+    pub node: Node,
+    pub place: u16,
 }
 
 // The number of the type of a question's answers, or none where the profile has no such question.
@@ -48,121 +62,127 @@ pub fn answer_number(profile: u32, question: u16) -> Option<u16>
     }
 }
 
-// A query whose child has the type nat.
-fn answered(profile: u32, question: u16, place: u16) -> Reaction
-    ensures value { result ≡ answered_by (answer_type profile question) place }
-{
-    match answer_number(profile, question) {
-        Some(number) => Reaction::Done(number),
-        None => Reaction::Reject(Question::QuestionKnown { place }),
+impl Site {
+    // Of a query: the number of the type of its answers.
+    fn answers(self) -> Result<u16, Question>
+        ensures value { result ≡ ok_or (answer_type self.profile self.node.number) (QuestionKnown self.place) }
+    {
+        answer_number(self.profile, self.node.number).ok_or(Question::QuestionKnown {
+            place: self.place,
+        })
     }
-}
 
-// A node whose first child has the type number `ty`, the number of `entry`: question 22.
-pub fn first_child(profile: u32, node: Node, place: u16, ty: u16, entry: Entry) -> Reaction
-    ensures value { result ≡ first profile node.kind node.number place ty entry }
-{
-    let number = node.number;
-    match node.kind {
-        Kind::Lambda => Reaction::Build(Entry {
-            form: Form::Function,
-            left: number,
-            right: ty,
-        }),
-        Kind::Inl => Reaction::Build(Entry {
-            form: Form::Sum,
-            left: ty,
-            right: number,
-        }),
-        Kind::Inr => Reaction::Build(Entry {
-            form: Form::Sum,
-            left: number,
-            right: ty,
-        }),
-        Kind::Pair => Reaction::Next(Awaits::Second(ty), None),
-        Kind::Successor if entry.form == Form::Nat => Reaction::Done(0),
-        Kind::Rec if entry.form == Form::Nat => Reaction::Next(Awaits::Second(ty), None),
-        Kind::Query if entry.form == Form::Nat => answered(profile, number, place),
-        Kind::Abort if entry.form == Form::Void => Reaction::Done(number),
-        Kind::Apply if entry.form == Form::Function => Reaction::Next(Awaits::Second(ty), None),
-        Kind::Fst if entry.form == Form::Product => Reaction::Done(entry.left),
-        Kind::Snd if entry.form == Form::Product => Reaction::Done(entry.right),
-        Kind::Case if entry.form == Form::Sum => Reaction::Next(
-            Awaits::Second(ty),
-            Some(entry.left),
-        ),
-        _ => Reaction::Reject(Question::FirstChild { place }),
+    // What the first child makes of the node, where its type has the number `ty` and is `entry`: question 22.
+    fn first_child(self, ty: u16, entry: Entry) -> Result<Reaction, Question>
+        ensures value { result ≡ first self.profile self.node.kind self.node.number self.place ty entry }
+    {
+        let number = self.node.number;
+        match self.node.kind {
+            Kind::Lambda => Ok(Reaction::Build(Entry {
+                form: Form::Function,
+                left: number,
+                right: ty,
+            })),
+            Kind::Inl => Ok(Reaction::Build(Entry {
+                form: Form::Sum,
+                left: ty,
+                right: number,
+            })),
+            Kind::Inr => Ok(Reaction::Build(Entry {
+                form: Form::Sum,
+                left: number,
+                right: ty,
+            })),
+            Kind::Pair => Ok(Reaction::Next(Awaits::Second(ty), None)),
+            Kind::Successor if entry.form == Form::Nat => Ok(Reaction::Done(0)),
+            Kind::Rec if entry.form == Form::Nat => Ok(Reaction::Next(Awaits::Second(ty), None)),
+            Kind::Query if entry.form == Form::Nat => self.answers().map(Reaction::Done),
+            Kind::Abort if entry.form == Form::Void => Ok(Reaction::Done(number)),
+            Kind::Apply if entry.form == Form::Function => {
+                Ok(Reaction::Next(Awaits::Second(ty), None))
+            }
+            Kind::Fst if entry.form == Form::Product => Ok(Reaction::Done(entry.left)),
+            Kind::Snd if entry.form == Form::Product => Ok(Reaction::Done(entry.right)),
+            Kind::Case if entry.form == Form::Sum => Ok(Reaction::Next(
+                Awaits::Second(ty),
+                Some(entry.left),
+            )),
+            _ => Err(Question::FirstChild { place: self.place }),
+        }
     }
-}
 
-// A node whose second child has the type number `ty`; `entry` is the kept type, that of the first child: question 23.
-pub fn second_child(kind: Kind, place: u16, kept: u16, ty: u16, entry: Entry) -> Reaction
-    ensures value { result ≡ second kind place kept ty entry }
-{
-    match kind {
-        Kind::Pair => Reaction::Build(Entry {
-            form: Form::Product,
-            left: kept,
-            right: ty,
-        }),
-        Kind::Rec => Reaction::Next(Awaits::Third(ty), Some(0)),
-        Kind::Case => Reaction::Next(Awaits::Third(ty), Some(entry.right)),
-        Kind::Apply if ty == entry.left => Reaction::Done(entry.right),
-        _ => Reaction::Reject(Question::LaterChild { place, child: 2 }),
+    // What the second child makes of the node, where its type has the number `ty`; `entry` is the kept type, that of the first
+    // child: question 23.
+    fn second_child(self, kept: u16, ty: u16, entry: Entry) -> Result<Reaction, Question>
+        ensures value { result ≡ second self.node.kind self.place kept ty entry }
+    {
+        match self.node.kind {
+            Kind::Pair => Ok(Reaction::Build(Entry {
+                form: Form::Product,
+                left: kept,
+                right: ty,
+            })),
+            Kind::Rec => Ok(Reaction::Next(Awaits::Third(ty), Some(0))),
+            Kind::Case => Ok(Reaction::Next(Awaits::Third(ty), Some(entry.right))),
+            Kind::Apply if ty == entry.left => Ok(Reaction::Done(entry.right)),
+            _ => Err(Question::LaterChild {
+                place: self.place,
+                child: 2,
+            }),
+        }
     }
-}
 
-// A node whose third child, which begins with a node of the kind `head`, has the type number `ty`, the number of `entry`; the
-// kept type is that of the second child: questions 23 and 24.
-pub fn third_child(kind: Kind, place: u16, kept: u16, ty: u16, entry: Entry, head: Kind) -> Reaction
-    ensures value { result ≡ third kind place kept ty entry head }
-{
-    let steps = entry.form == Form::Function && entry.left == kept && entry.right == kept;
-    match kind {
-        Kind::Rec if steps && head == Kind::Lambda => Reaction::Done(kept),
-        Kind::Rec if steps => Reaction::Reject(Question::StepFunction { place }),
-        Kind::Case if ty == kept => Reaction::Done(kept),
-        _ => Reaction::Reject(Question::LaterChild { place, child: 3 }),
+    // What the third child makes of the node, where its type is `entry`; the kept type is that of the second child: questions
+    // 23 and 24.
+    fn third_child(self, kept: u16, child: Finished, entry: Entry) -> Result<Reaction, Question>
+        ensures value { result ≡ third self.node.kind self.place kept child.ty entry child.kind }
+    {
+        let steps = entry.form == Form::Function && entry.left == kept && entry.right == kept;
+        match self.node.kind {
+            Kind::Rec if steps && child.kind == Kind::Lambda => Ok(Reaction::Done(kept)),
+            Kind::Rec if steps => Err(Question::StepFunction { place: self.place }),
+            Kind::Case if child.ty == kept => Ok(Reaction::Done(kept)),
+            _ => Err(Question::LaterChild {
+                place: self.place,
+                child: 3,
+            }),
+        }
     }
-}
 
-// What the node at `place`, which awaited a child, does with it: its type number is `ty`, and its root of the kind `head`.
-pub fn take_child(
-    profile: u32,
-    node: Node,
-    place: u16,
-    awaits: Awaits,
-    types: &[Entry],
-    ty: u16,
-    head: Kind,
-) -> Reaction
-    requires { (ty < length types.now) × (kept_of awaits < length types.now) }
-    ensures value { result ≡ react profile node.kind node.number place awaits types.now ty head }
-{
-    match (awaits, types[ty as usize]) {
-        (Awaits::First, entry) => first_child(profile, node, place, ty, entry),
-        (Awaits::Second(kept), _) => second_child(node.kind, place, kept, ty, types[kept as usize]),
-        (Awaits::Third(kept), entry) => third_child(node.kind, place, kept, ty, entry, head),
+    // What the awaited child makes of the node.
+    pub fn take_child(
+        self,
+        awaits: Awaits,
+        types: &[Entry],
+        child: Finished,
+    ) -> Result<Reaction, Question>
+        requires known { child.ty < length types.now }
+        requires kept { kept_of awaits < length types.now }
+        ensures value { result ≡ react self.profile self.node.kind self.node.number self.place awaits types.now child.ty child.kind }
+    {
+        match (awaits, types[usize::from(child.ty)]) {
+            (Awaits::First, entry) => self.first_child(child.ty, entry),
+            (Awaits::Second(kept), _) => {
+                self.second_child(kept, child.ty, types[usize::from(kept)])
+            }
+            (Awaits::Third(kept), entry) => self.third_child(kept, child, entry),
+        }
     }
-}
 
-// What is done on reaching a node under these binders: questions 20 and 21.
-pub fn reach(profile: u32, node: Node, place: u16, binders: &[u32], bound: usize) -> Arrival
-    requires { (bound ≤ length binders.now) × (Small binders.now) }
-    ensures value { result ≡ arrive profile node.kind node.number place (context binders.now bound) }
-{
-    match node.kind {
-        Kind::Variable => match binder_type(binders, bound, node.number) {
-            Some(number) => Arrival::Known(number),
-            None => Arrival::Barred(Question::IndexBound { place }),
-        },
-        Kind::Zero => Arrival::Known(0),
-        Kind::Triv => Arrival::Known(1),
-        Kind::Lambda => Arrival::Waits(Some(node.number)),
-        Kind::Query => match answer_number(profile, node.number) {
-            Some(_) => Arrival::Waits(None),
-            None => Arrival::Barred(Question::QuestionKnown { place }),
-        },
-        _ => Arrival::Waits(None),
+    // What is done on reaching the node under these binders: questions 20 and 21.
+    pub fn reach(self, binders: &Binders) -> Result<Arrival, Question>
+        ensures value { result ≡ arrive self.profile self.node.kind self.node.number self.place binders.now.types }
+    {
+        match self.node.kind {
+            Kind::Variable => binders
+                .get(self.node.number)
+                .map(Arrival::Known)
+                .ok_or(Question::IndexBound { place: self.place }),
+            Kind::Zero => Ok(Arrival::Known(0)),
+            Kind::Triv => Ok(Arrival::Known(1)),
+            Kind::Lambda => Ok(Arrival::Waits(Some(self.node.number))),
+            Kind::Query => self.answers().map(|_| Arrival::Waits(None)),
+            _ => Ok(Arrival::Waits(None)),
+        }
     }
 }

@@ -1,11 +1,10 @@
-use Rattle.std.proofs.Common.{◌≡◌, length, sym, ap, ◌∙◌, arith, rules}
+use Rattle.std.proofs.Common.{length, ap, ◌∙◌, rules}
 use Rattle.checker.specs.Checking.{zeros}
-use Rattle.checker.proofs.Checks.{accept_call, reject_call, small_zeros}
+use Rattle.checker.proofs.Checks.{accept_call, reject_call}
 use Rattle.checker.proofs.check.judge_rule.Goals as goal
 
 pub judge_nodes-requires : goal.judge_nodes-requires
 judge_nodes-requires c =
-    let filled : c.fill.new.self ≡ zeros (length c.args.scratch.now) = search rules in
     record {
       ready = record {
         term = c.requires.term;
@@ -14,10 +13,8 @@ judge_nodes-requires c =
         few_nodes = c.requires.counts.few_nodes;
         few_types = c.requires.counts.few_types;
         types = c.requires.room.0;
-        words = omega (arith, c.split_at_mut-frames.ensures.front_len);
-        slots = omega (arith, c.split_at_mut-frames.ensures.back_len, c.requires.room.1, c.fill.ensures.len);
+        room = c.requires.room.1;
       };
-      small = small_zeros (length c.args.scratch.now) _ _ (sym filled ∙ c.split_at_mut-frames.ensures.value);
     }
 
 pub returns-in-Ok : goal.returns-in-Ok
@@ -25,7 +22,7 @@ returns-in-Ok c =
     record {
       judged = accept_call c.args.nodes.now c.args.types.now c.args.count (length c.args.scratch.now) c.args.profile c.requires
           c.in-Ok.type_number c.in-Ok.grown c.judge_nodes.new.types c.clear.new.types c.clear.new.numbers
-          c.judge_nodes.auto.types c.in-Ok.ensures.within.1 c.in-Ok.ensures.judged c.clear.ensures.types
+          c.judge_nodes.auto.types c.in-Ok.ensures.within c.in-Ok.ensures.judged c.clear.ensures.types
           (c.clear.ensures.numbers ∙ ap zeros (search rules));
     }
 

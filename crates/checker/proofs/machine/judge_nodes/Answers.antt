@@ -1,81 +1,84 @@
-use Rattle.std.proofs.Common.{◌<◌, [], take, sym, ◌∙◌, subst, arith}
+use Rattle.std.proofs.Common.{ℕ, List, [], take, sym, refl, ap, ◌∙◌, subst, arith, None}
 use Rattle.std.proofs.lemmas.List.{length-take-le}
-use Rattle.checker.specs.declared.machine.Turn.TheVariants.{Go}
+use Rattle.std.proofs.lemmas.Result.{err_from_is_err_and}
+use Rattle.checker.specs.declared.frame.Frame.{Frame}
+use Rattle.checker.specs.Binders.{Bound}
+use Rattle.checker.specs.Frames.{Stacked}
 use Rattle.checker.specs.Trees.{view}
 use Rattle.checker.specs.Judging.{judge_term}
-use Rattle.checker.specs.Machine.{Step, step_after}
+use Rattle.checker.specs.Machine.{go}
 use Rattle.checker.proofs.Tracks.{Good, good_start}
-use Rattle.checker.proofs.Readies.{Room, ready, good_step, falls, left}
-use Rattle.checker.proofs.Turns.{same_keeps, keeps_on}
+use Rattle.checker.proofs.Readies.{running_ready, running_on, good_turn, left_turn}
+use Rattle.checker.proofs.Keeping.{same_keeps, keeps_on}
 use Rattle.checker.proofs.Views.{view_onto, view_whole, numbers_in, parts_in}
 use Rattle.checker.proofs.machine.judge_nodes.Goals as goal
 
 pub turns-init : goal.turns-init
 turns-init c =
     let N = c.args.nodes.now in
+    let P = c.args.profile in
     let C = c.args.count in
     let ts = c.args.types.now in
+    let T = take C ts in
     let input = c.requires.ready in
-    let long = length-take-le C ts (omega (arith, input.types)) in (
-      λ t e. good_start c.args.profile N C (take C ts) (view t) (sym e ∙ sym (view_onto t [])) (view_whole t)
-          (numbers_in C N input.term.2) input.given long (parts_in (take C ts) input.table (omega (arith, input.given))),
-      c.requires.small,
-      same_keeps C ts (omega (arith, input.types)),
-    )
-
-pub turn_once-requires : goal.turn_once-requires
-turn_once-requires c =
-    let input = c.requires.ready in
-    let room : Room c.args.nodes.now c.args.count c.turns.types c.turns.frames c.turns.binders = record {
-      few_nodes = input.few_nodes;
-      few_types = input.few_types;
-      types = omega (arith, input.types, c.turns.auto.types);
-      words = omega (arith, input.words, c.turns.auto.frames);
-      slots = omega (arith, input.slots, c.turns.auto.binders);
-    } in
+    let long = length-take-le C ts (omega (arith, input.types)) in
+    let F = c.new-stack.result.frames in
+    let Γ = c.new-binders.result.types in
+    let room = ap (λ (s : Stacked). s.room) c.new-stack.ensures.value in
+    let slots = ap (λ (b : Bound). b.room) c.new-binders.ensures.value in
     record {
-      ready = ready c.args.profile c.args.nodes.now c.args.count _ c.turns.types c.turns.frames c.turns.binders c.turns.st room
-          c.turns.invariant.2.most (c.turns.invariant.0 input.term.0 input.term.1);
-      small = c.turns.invariant.1;
+      nodes = refl;
+      profile_is = refl;
+      frames = omega (arith, room, input.room, c.split_at_mut-frames.ensures.front_len);
+      binders = omega (arith, slots, input.room, c.split_at_mut-frames.ensures.back_len);
+      good = λ t e.
+          let o = judge_term P t T in
+          subst (λ (G : List Frame). Good P N C o (go 0 G Γ T None)) (sym (ap (λ (s : Stacked). s.frames) c.new-stack.ensures.value))
+          (subst (λ (Δ : List ℕ). Good P N C o (go 0 [] Δ T None)) (sym (ap (λ (b : Bound). b.types) c.new-binders.ensures.value))
+          (good_start P N C T (view t) (sym e ∙ sym (view_onto t [])) (view_whole t)
+          (numbers_in C N input.term.2) input.given long (parts_in T input.table (omega (arith, input.given)))));
+      keeps = same_keeps C ts (omega (arith, input.types));
+    }
+
+pub turn-requires : goal.turn-requires
+turn-requires c =
+    let input = c.requires.ready in
+    record {
+      ready =
+          running_ready c.args.nodes.now c.args.profile c.args.count c.args.types.now c.turns.types c.turns.machine c.turns.invariant
+          input.term.0 input.term.1 input.few_nodes input.few_types (omega (arith, input.types, c.turns.auto.types));
     }
 
 pub turns-smaller : goal.turns-smaller
 turns-smaller c =
-    let N = c.args.nodes.now in
-    let t = c.requires.ready.term in
-    subst (λ (x : Step). left N x < left N (step_after (Go c.turns.st) c.turns.frames c.turns.binders c.turns.types)) (sym c.in-Go.ensures.step)
-    (falls c.args.profile N c.args.count _ _ _ _ _ c.turns.st.done (c.turns.invariant.0 t.0 t.1))
+    left_turn c.args.nodes.now c.args.profile c.args.count c.args.types.now c.turns.types c.turns.machine c.turns.invariant _
+    (rw c.in_default.is at c.in_ok-ty.ensures.step) c.requires.ready.term.0 c.requires.ready.term.1
 
 pub turns-preserved : goal.turns-preserved
 turns-preserved c =
-    let N = c.args.nodes.now in (
-      λ t e. let o = judge_term c.args.profile t (take c.args.count c.args.types.now) in
-          subst (Good c.args.profile N c.args.count o) (sym c.in-Go.ensures.step)
-          (good_step c.args.profile N c.args.count o _ _ _ _ c.turns.st.done (c.turns.invariant.0 t e)),
-      c.in-Go.ensures.small,
-      keeps_on c.args.count c.turns.st.count _ c.args.types.now c.turns.types c.turn_once.new.types c.turns.invariant.2 c.in-Go.ensures.keeps,
-    )
+    running_on c.args.nodes.now c.args.profile c.args.count c.args.types.now c.turns.types c.turns.machine c.turns.invariant c.turn.new.self c.turn.new.types
+    c.turn.ensures.same c.turn.ensures.keeps (rw c.in_default.is at c.in_ok-ty.ensures.step)
 
-pub returns-in-Accept : goal.returns-in-Accept
-returns-in-Accept c =
-    let N = c.args.nodes.now in
-    let k = keeps_on c.args.count c.turns.st.count _ c.args.types.now c.turns.types c.turn_once.new.types c.turns.invariant.2 c.in-Accept.ensures.keeps in
-    record {
-      judged = λ t e. let o = judge_term c.args.profile t (take c.args.count c.args.types.now) in
-          subst (Good c.args.profile N c.args.count o) (sym c.in-Accept.ensures.step)
-          (good_step c.args.profile N c.args.count o _ _ _ _ c.turns.st.done (c.turns.invariant.0 t e));
-      front = k.front;
-      within = (k.low, k.most);
-    }
+pub returns-in-Break-clause-judged : goal.returns-in-Break-clause-judged
+returns-in-Break-clause-judged c =
+    λ t e. good_turn c.args.nodes.now c.args.profile c.args.count c.args.types.now c.turns.types c.turns.machine c.turns.invariant _
+    (rw c.in-Break.is at c.in_ok-ty.ensures.step) t e
 
-pub returns-in-Refuse : goal.returns-in-Refuse
-returns-in-Refuse c =
-    let N = c.args.nodes.now in
-    let k = keeps_on c.args.count c.turns.st.count _ c.args.types.now c.turns.types c.turn_once.new.types c.turns.invariant.2 c.in-Refuse.ensures.keeps in
-    record {
-      judged = λ t e. let o = judge_term c.args.profile t (take c.args.count c.args.types.now) in
-          subst (Good c.args.profile N c.args.count o) (sym c.in-Refuse.ensures.step)
-          (good_step c.args.profile N c.args.count o _ _ _ _ c.turns.st.done (c.turns.invariant.0 t e));
-      front = k.front;
-      within = tt;
-    }
+pub returns-in-Break-clause-front : goal.returns-in-Break-clause-front
+returns-in-Break-clause-front c =
+    let k = keeps_on c.args.count c.turns.machine.count c.turn.new.self.count c.args.types.now c.turns.types c.turn.new.types
+    c.turns.invariant.keeps c.turn.ensures.keeps in
+    k.front
+
+pub returns-in_err-ty-clause-judged : goal.returns-in_err-ty-clause-judged
+returns-in_err-ty-clause-judged c =
+    let p = err_from_is_err_and c.from_residual.result c.from_residual.ensures.1 in
+    λ t e. let g = good_turn c.args.nodes.now c.args.profile c.args.count c.args.types.now c.turns.types c.turns.machine c.turns.invariant _
+    c.in_err-ty.ensures.step t e in
+    rw (p.1, p.2) g
+
+pub returns-in_err-ty-clause-front : goal.returns-in_err-ty-clause-front
+returns-in_err-ty-clause-front c =
+    let k = keeps_on c.args.count c.turns.machine.count c.turn.new.self.count c.args.types.now c.turns.types c.turn.new.types
+    c.turns.invariant.keeps c.turn.ensures.keeps in
+    k.front

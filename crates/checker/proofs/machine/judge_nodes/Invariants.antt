@@ -1,18 +1,10 @@
-use Rattle.std.proofs.Common.{◌≡◌, take}
-use Rattle.calculus.specs.Syntax.{Term, flat}
-use Rattle.checker.specs.declared.machine.Turn.TheVariants.{Go}
-use Rattle.checker.specs.Frames.{Small}
-use Rattle.checker.specs.Judging.{judge_term}
-use Rattle.checker.specs.Machine.{step_after, Keeps}
-use Rattle.checker.proofs.Tracks.{Good}
-use Rattle.checker.proofs.Readies.{left}
+use Rattle.std.proofs.Common.{take}
+use Rattle.checker.specs.Machine.{state_of}
+use Rattle.checker.proofs.Readies.{Running, left}
 use Rattle.checker.proofs.machine.judge_nodes.Given as goal
 
 abbrev pub invariant-turns : goal.invariant-turns
-invariant-turns l =
-    ((t : Term) → flat t ≡ l.nodes → Good l.profile l.nodes l.count (judge_term l.profile t (take l.count l.initial.types)) (step_after (Go l.st) l.frames l.binders l.types))
-    × (Small l.frames × Small l.binders)
-    × Keeps l.count l.st.count l.initial.types l.types
+invariant-turns l = Running l.nodes l.profile l.count l.initial.types l.types l.machine
 
 abbrev pub decreases-turns : goal.decreases-turns
-decreases-turns l = left l.nodes (step_after (Go l.st) l.frames l.binders l.types)
+decreases-turns l = left l.nodes (state_of l.machine (take l.machine.count l.types))

@@ -1,7 +1,7 @@
 -- Each no, as a case of `Uncheckable`.
 use Rattle.std.proofs.Common.{rules}
 use Rattle.checker.specs.Checking.{counts_unfit, no_room, entry_at_fault, node_at_fault}
-use Rattle.checker.proofs.check.check_fault.Goals as goal
+use Rattle.checker.proofs.check.admit.Goals as goal
 
 pub returns-then-not-counts_fit : goal.returns-then-not-counts_fit
 returns-then-not-counts_fit c = record { first = counts_unfit (search rules) }
