@@ -2,7 +2,8 @@
 use Rattle.std.proofs.Common.{◌≡◌, ℕ, zero, suc, ◌<◌, ◌≤◌, ◌⊎◌, [], Some, None, Option, sym, refl, ap, ◌∙◌, inl, inr, ⊎_elim, arith}
 use Rattle.calculus.specs.declared.answer.Answer.{Answer}
 use Rattle.calculus.specs.Syntax.{Ty, nat, void, fun, prod, sum, Term, SU, RE, AP, PA, FS, SN, AB, IL, IR, CA, QU, size, numeral, Value, val_z, val_s, val_abs, val_null, val_prod, val_inl, val_inr, put, one}
-use Rattle.calculus.specs.Meanings.{Shape, Meaning, Lawful, LawfulUnder, largest_asked, question_shape, reply}
+use Rattle.calculus.specs.declared.answer.Shape.{Shape}
+use Rattle.calculus.specs.Meanings.{Meaning, Lawful, LawfulUnder, largest_asked, question_shape, reply}
 use Rattle.calculus.specs.Typing.{Typed, typing_var, typing_z, typing_s, typing_rec, typing_abs, typing_fapp, typing_null, typing_pair, typing_fst, typing_snd, typing_abort, typing_inl, typing_inr, typing_case, typing_query}
 use Rattle.calculus.specs.Steps.{eval_s, eval_fapp_left, eval_fapp_right, eval_beta, eval_rec_scrut, eval_rec_z, eval_rec_s, eval_pair_left, eval_pair_right, eval_fst, eval_snd, eval_fst_val, eval_snd_val, eval_abort, eval_inl, eval_inr, eval_case, eval_casel, eval_caser, eval_query, eval_answer}
 use Rattle.calculus.specs.Safety.{HasNext}

@@ -1,6 +1,6 @@
 pub mod Kinds
 pub mod Forms
-pub mod Refusals
+pub mod Marks
 pub mod Syntax
 pub mod Substitution
 pub mod Tables

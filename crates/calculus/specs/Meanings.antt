@@ -1,7 +1,6 @@
 -- What a host means, and the laws of its meaning.
 --   largest_number   the largest number in an answer
 --   largest_asked    the largest number that a question may be put at
---   Shape            the shapes of answers
 --   Meaning          a host's meaning: a profile, and an answer or none to a question at a number
 --   digit            a hexadecimal digit of a profile
 --   digit_shape      the shape that a digit stands for
@@ -15,6 +14,8 @@
 use Rattle.std.specs.Prelude.{◌≡◌, ℕ, ◌/◌, ◌%◌, ◌^◌, ◌<◌, ◌≤◌, true, false, cond, ◌⊎◌, ◌↔◌, Some, None, Option, ◌==◌, nat_lt}
 use Rattle.calculus.specs.declared.answer.Answer.{Answer}
 use Rattle.calculus.specs.declared.answer.Answer.TheVariants as answer
+use Rattle.calculus.specs.declared.answer.Shape.{Shape}
+use Rattle.calculus.specs.declared.answer.Shape.TheVariants as shape
 use Rattle.calculus.specs.Syntax.{Term, TR, PA, IL, IR, numeral}
 
 abbrev pub largest_number : ℕ
@@ -22,9 +23,6 @@ largest_number = 255
 
 abbrev pub largest_asked : ℕ
 largest_asked = 4095
-
-pub data Shape : Type 0 where
-  number flag maybe pair : Shape
 
 pub record Meaning : Type 0 where
   pub profile : ℕ
@@ -36,18 +34,18 @@ digit p k = (p / (16 ^ k)) % 16
 
 abbrev pub digit_shape : ℕ → Option Shape
 digit_shape d =
-    cond (d == 1) (Some number)
-    (cond (d == 2) (Some flag) (cond (d == 3) (Some maybe) (cond (d == 4) (Some pair) None)))
+    cond (d == 1) (Some shape.Number)
+    (cond (d == 2) (Some shape.Flag) (cond (d == 3) (Some shape.Maybe) (cond (d == 4) (Some shape.Pair) None)))
 
 -- The questions are 0 to 7, and digit q of the profile is for question q.
 abbrev pub question_shape : ℕ → ℕ → Option Shape
 question_shape p q = cond (nat_lt q 8) (digit_shape (digit p q)) None
 
 abbrev pub answer_shape : Answer → Shape
-answer_shape (answer.Number n) = number
-answer_shape (answer.Flag b) = flag
-answer_shape (answer.Maybe o) = maybe
-answer_shape (answer.Pair m n) = pair
+answer_shape (answer.Number n) = shape.Number
+answer_shape (answer.Flag b) = shape.Flag
+answer_shape (answer.Maybe o) = shape.Maybe
+answer_shape (answer.Pair m n) = shape.Pair
 
 abbrev pub Bounded : Answer → Type 0
 Bounded (answer.Number n) = n ≤ largest_number

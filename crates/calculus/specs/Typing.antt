@@ -6,13 +6,15 @@
 use Rattle.std.specs.Prelude.{◌≡◌, ℕ, ◌<◌, List, ◌∷◌, Some}
 use Rattle.std.specs.List.{slice_get}
 use Rattle.calculus.specs.Syntax.{Ty, nat, unit, void, fun, prod, sum, Term, VA, ZE, SU, RE, LA, AP, TR, PA, FS, SN, AB, IL, IR, CA, QU, Value}
-use Rattle.calculus.specs.Meanings.{Shape, number, flag, maybe, pair, question_shape}
+use Rattle.calculus.specs.declared.answer.Shape.{Shape}
+use Rattle.calculus.specs.declared.answer.Shape.TheVariants as shape
+use Rattle.calculus.specs.Meanings.{question_shape}
 
 abbrev pub shape_type : Shape → Ty
-shape_type number = nat
-shape_type flag = sum unit unit
-shape_type maybe = sum unit nat
-shape_type pair = prod nat nat
+shape_type shape.Number = nat
+shape_type shape.Flag = sum unit unit
+shape_type shape.Maybe = sum unit nat
+shape_type shape.Pair = prod nat nat
 
 -- `Typed ρ profile Γ e τ`: where ρ reads type numbers and the host has this profile, in the context Γ, whose head is the
 -- type of variable 0, the term e has the type τ.

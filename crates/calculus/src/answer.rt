@@ -1,4 +1,4 @@
-// What a host answers to a question: a number, a flag, perhaps a number, or a pair of numbers.
+// What a host answers to a question, and the shapes of answers.
 
 #[derive(Clone, Copy, PartialEq, Eq, Debug)]
 pub enum Answer {
@@ -6,4 +6,13 @@ pub enum Answer {
     Flag(bool),
     Maybe(Option<u16>),
     Pair(u16, u16),
+}
+
+// The shape of a question's answers: a number, a flag, perhaps a number, or a pair of numbers.
+#[derive(Clone, Copy, PartialEq, Eq, Debug)]
+pub enum Shape {
+    Number,
+    Flag,
+    Maybe,
+    Pair,
 }

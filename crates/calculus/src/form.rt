@@ -1,6 +1,9 @@
 // The forms of types, with their numbers and their marks in a file.
 ghost use Rattle.std.specs.Prelude.{◌≡◌};
 ghost use Rattle.calculus.specs.Forms.{form_number, form_mark, form_of_mark, FormMarksAgree};
+ghost use Rattle.calculus.specs.Marks.{Decodes};
+
+use crate::mark::UnknownMark;
 
 // `Blank` is the form of an unused place in a type table.
 #[derive(Clone, Copy, PartialEq, Eq, Debug)]
@@ -47,6 +50,27 @@ impl Form {
             (b'T', b'P') => Form::Product,
             (b'T', b'S') => Form::Sum,
             _ => Form::Blank,
+        }
+    }
+}
+
+// The form with a mark, also of those that no file has; two hyphens are a blank's.
+impl TryFrom<[u8; 2]> for Form {
+    type Error = UnknownMark;
+
+    ghost try_from_gives = { Decodes form_mark };
+
+    fn try_from(mark: [u8; 2]) -> Result<Form, UnknownMark> {
+        let [a, b] = mark;
+        match (a, b) {
+            (b'-', b'-') => Ok(Form::Blank),
+            (b'T', b'N') => Ok(Form::Nat),
+            (b'T', b'U') => Ok(Form::Unit),
+            (b'T', b'V') => Ok(Form::Void),
+            _ => match Form::of_mark(a, b) {
+                Form::Blank => Err(UnknownMark(mark)),
+                form => Ok(form),
+            },
         }
     }
 }

@@ -1,6 +1,9 @@
 // The kinds of nodes, with their numbers, their marks in a file and how many children each has.
 ghost use Rattle.std.specs.Prelude.{◌≡◌, [], ◌∷◌};
 ghost use Rattle.calculus.specs.Kinds.{kind_number, kind_mark, kind_of_mark, arity, MarksAgree};
+ghost use Rattle.calculus.specs.Marks.{Decodes};
+
+use crate::mark::UnknownMark;
 
 // `Blank` is the kind of an unused place in a node table; a term has none.
 #[derive(Clone, Copy, PartialEq, Eq, Debug)]
@@ -90,6 +93,21 @@ impl Kind {
             Kind::Abort | Kind::Inl | Kind::Inr | Kind::Query => 1,
             Kind::Apply | Kind::Pair => 2,
             Kind::Rec | Kind::Case => 3,
+        }
+    }
+}
+
+// The kind with a mark; two hyphens are a blank's.
+impl TryFrom<[u8; 2]> for Kind {
+    type Error = UnknownMark;
+
+    ghost try_from_gives = { Decodes kind_mark };
+
+    fn try_from(mark: [u8; 2]) -> Result<Kind, UnknownMark> {
+        let [a, b] = mark;
+        match Kind::of_mark(a, b) {
+            Kind::Blank if mark != *b"--" => Err(UnknownMark(mark)),
+            kind => Ok(kind),
         }
     }
 }

@@ -1,5 +1,5 @@
 // The words that every other crate speaks: kinds and nodes of terms, forms and entries of types, answers of hosts, causes
-// to stop, refusals; and the laws of the calculus.
+// to stop; and the laws of the calculus.
 #![tactic(auto)]
 
 pub mod answer;
@@ -7,6 +7,6 @@ pub mod entry;
 pub mod form;
 pub mod kind;
 pub mod laws;
+pub mod mark;
 pub mod node;
-pub mod refusal;
 pub mod stop;

@@ -11,7 +11,9 @@ use Rattle.calculus.specs.declared.form.Form.TheVariants as form
 use Rattle.calculus.specs.Kinds.{kind_number, arity}
 use Rattle.calculus.specs.Forms.{empty}
 use Rattle.calculus.specs.Tables.{occurs}
-use Rattle.calculus.specs.Meanings.{Shape, number, flag, maybe, pair, question_shape}
+use Rattle.calculus.specs.declared.answer.Shape.{Shape}
+use Rattle.calculus.specs.declared.answer.Shape.TheVariants as shape
+use Rattle.calculus.specs.Meanings.{question_shape}
 use Rattle.terms.specs.Ranges.{number_in_range}
 use Rattle.types.specs.Adding.{with_entry}
 use Rattle.checker.specs.declared.frame.Awaits.{Awaits}
@@ -113,10 +115,10 @@ if_fits false x y ar k C p q = q
 
 answered_fits : (o : Option Shape) (p C : ℕ) → 6 ≤ C → ReactionFits (answered_by (option_map answer_number_lem o) p) 1 1 C
 answered_fits None p C h = tt
-answered_fits (Some number) p C h = (refl, omega arith)
-answered_fits (Some flag) p C h = (refl, omega arith)
-answered_fits (Some maybe) p C h = (refl, omega arith)
-answered_fits (Some pair) p C h = (refl, omega arith)
+answered_fits (Some shape.Number) p C h = (refl, omega arith)
+answered_fits (Some shape.Flag) p C h = (refl, omega arith)
+answered_fits (Some shape.Maybe) p C h = (refl, omega arith)
+answered_fits (Some shape.Pair) p C h = (refl, omega arith)
 
 first_fits : (profile : ℕ) (k : Kind) (n p ty : ℕ) (x : Entry) (C : ℕ) → 6 ≤ C → NumberIn k n C → ty < C → x.left < C → x.right < C
     → ReactionFits (first profile k n p ty x) (arity k) 1 C

@@ -16,7 +16,8 @@ use Rattle.calculus.specs.Kinds.{kind_number}
 use Rattle.calculus.specs.Forms.{entry, empty}
 use Rattle.calculus.specs.Syntax.{Ty, nat, fun, sum, Term, VA, ZE, SU, RE, LA, AP, TR, PA, FS, SN, AB, IL, IR, CA, QU, Value, val_abs, size}
 use Rattle.calculus.specs.Tables.{reading}
-use Rattle.calculus.specs.Meanings.{Shape, question_shape}
+use Rattle.calculus.specs.declared.answer.Shape.{Shape}
+use Rattle.calculus.specs.Meanings.{question_shape}
 use Rattle.calculus.specs.Typing.{Typed, typing_var, typing_z, typing_s, typing_rec, typing_abs, typing_fapp, typing_null, typing_pair, typing_fst, typing_snd, typing_abort, typing_inl, typing_inr, typing_case, typing_query, TypesBelow}
 use Rattle.calculus.specs.Infer.{value?}
 use Rattle.calculus.proofs.Values.{value_true}

@@ -17,7 +17,8 @@ use Rattle.calculus.specs.declared.form.Form.TheVariants as form
 use Rattle.calculus.specs.Forms.{form_number, joins, entry, empty}
 use Rattle.calculus.specs.Syntax.{Ty, nat, unit, void, fun, prod, sum}
 use Rattle.calculus.specs.Tables.{same_entry, occurs, laid, LaidDown, join, reading, given_types}
-use Rattle.calculus.specs.Meanings.{Shape, number, flag, maybe, pair}
+use Rattle.calculus.specs.declared.answer.Shape.{Shape}
+use Rattle.calculus.specs.declared.answer.Shape.TheVariants as shape
 use Rattle.calculus.specs.Typing.{shape_type}
 use Rattle.calculus.proofs.Readings.{readings_kept, Placed, placed_nat, placed_unit, placed_void, placed_joined, placed, entries_join, given_readings}
 use Rattle.calculus.proofs.ReadingsApart.{readings_apart}
@@ -71,10 +72,10 @@ given_reads {T = T} t i h =
     record { within = l; is = given_readings T t.laid_down i h l }
 
 pub answer_reads : {es T : List Entry} → Table es T → (s : Shape) → Reads T (answer_number_lem s) (shape_type s)
-answer_reads t number = given_reads t 0 (omega arith)
-answer_reads t flag = given_reads t 3 (omega arith)
-answer_reads t maybe = given_reads t 4 (omega arith)
-answer_reads t pair = given_reads t 5 (omega arith)
+answer_reads t shape.Number = given_reads t 0 (omega arith)
+answer_reads t shape.Flag = given_reads t 3 (omega arith)
+answer_reads t shape.Maybe = given_reads t 4 (omega arith)
+answer_reads t shape.Pair = given_reads t 5 (omega arith)
 
 -- equal types have equal numbers, so a test of two numbers tells whether their types are equal
 pub number_test : {T : List Entry} {i j : ℕ} {σ τ : Ty} → LaidDown T → Reads T i σ → Reads T j τ

@@ -18,7 +18,8 @@ use Rattle.refusals.specs.declared.Question.TheVariants.{IndexBound, QuestionKno
 use Rattle.calculus.specs.declared.entry.Entry.{Entry}
 use Rattle.calculus.specs.Syntax.{Ty, nat, void, fun, prod, sum, Term, VA, ZE, SU, RE, LA, AP, TR, PA, FS, SN, AB, IL, IR, CA, QU, Value, size}
 use Rattle.calculus.specs.Tables.{reading}
-use Rattle.calculus.specs.Meanings.{Shape, question_shape}
+use Rattle.calculus.specs.declared.answer.Shape.{Shape}
+use Rattle.calculus.specs.Meanings.{question_shape}
 use Rattle.calculus.specs.Typing.{Typed}
 
 -- `Reached ρ profile Γ e p Δ u k`: where e stands at the place p in the context Γ, its subterm u stands at k in Δ.

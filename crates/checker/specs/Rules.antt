@@ -21,7 +21,9 @@ use Rattle.calculus.specs.declared.kind.Kind.{Kind}
 use Rattle.calculus.specs.declared.kind.Kind.TheVariants.{Blank, Variable, Zero, Successor, Rec, Lambda, Apply, Triv, Pair, Fst, Snd, Abort, Inl, Inr, Case, Query}
 use Rattle.calculus.specs.Kinds.{kind_number}
 use Rattle.calculus.specs.Forms.{form_number, entry, empty}
-use Rattle.calculus.specs.Meanings.{Shape, number, flag, maybe, pair, question_shape}
+use Rattle.calculus.specs.declared.answer.Shape.{Shape}
+use Rattle.calculus.specs.declared.answer.Shape.TheVariants as shape
+use Rattle.calculus.specs.Meanings.{question_shape}
 use Rattle.checker.specs.declared.frame.Awaits.{Awaits}
 use Rattle.checker.specs.declared.frame.Awaits.TheVariants.{First, Second, Third}
 use Rattle.checker.specs.declared.rules.Arrival.{Arrival}
@@ -31,10 +33,10 @@ use Rattle.checker.specs.declared.rules.Reaction.TheVariants.{Done, Build, Next,
 
 -- nat, unit + unit, unit + nat and nat × nat are given entries
 abbrev pub answer_number_lem : Shape → ℕ
-answer_number_lem number = 0
-answer_number_lem flag = 3
-answer_number_lem maybe = 4
-answer_number_lem pair = 5
+answer_number_lem shape.Number = 0
+answer_number_lem shape.Flag = 3
+answer_number_lem shape.Maybe = 4
+answer_number_lem shape.Pair = 5
 
 abbrev pub answer_type : ℕ → ℕ → Option ℕ
 answer_type profile q = option_map answer_number_lem (question_shape profile q)

@@ -6,7 +6,7 @@ use crate::text::{Position, Text, at_word, without_comment};
 use crate::words::{WordError, Worded, is_type_word};
 use calculus::entry::Entry;
 use calculus::node::Node;
-use calculus::refusal::{Question, Refusal};
+use refusals::{Question, Refusal};
 use std::alloc::{AllocError, AllocFailed, Global};
 use std::fmt;
 use types::table::GIVEN;

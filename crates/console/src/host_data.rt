@@ -1,11 +1,11 @@
 // The host of a script, as the data that it is made from.
 use calculus::answer::Answer;
-use calculus::refusal::Refusal;
 use hosts::host::Host;
 use hosts::line::Line;
 use hosts::listing::Listing;
 use hosts::sheet::Sheet;
 use hosts::version::Version;
+use refusals::Refusal;
 use std::alloc::Global;
 use std::fmt;
 

@@ -1,8 +1,8 @@
 // What each question asks, in words: a line for a refusal, and a longer explanation.
 ghost use Rattle.std.specs.Prelude.{◌≡◌, IfSome};
-ghost use Rattle.calculus.specs.Refusals.{question_numbers};
+ghost use Rattle.refusals.specs.Refusals.{question_numbers};
 
-use calculus::refusal::{Question, Refusal};
+use refusals::{Question, Refusal};
 use std::fmt;
 
 // The question with this number, at place 0 where it has a place.
@@ -53,12 +53,30 @@ pub fn needed(question: Question) -> &'static str {
         Question::TermEnded { .. } => "the last record must end the term",
         Question::Counts =>
             "there must be 1 to 4096 nodes, and a count of types from 6 to 1030 that the type table has",
+        Question::CheckRoom =>
+            "with N nodes, the type table must have N entries past the count, and the scratch list 4 N numbers",
         Question::EntryLaid { .. } =>
             "entries 0 to 5 must be the given six, and each later entry a new TF, TP or TS of two lower entries",
         Question::OneTerm { .. } =>
             "the nodes must be one term, with type numbers below the count, indexes below 4096, query numbers below 8, all else 0",
         Question::ByteRoom =>
             "a byte list of 6 bytes for the head, each type record and each node is needed",
+        Question::IndexBound { .. } =>
+            "a variable's index must be below the number of binders around it",
+        Question::QuestionKnown { .. } => "the host's profile must have the query's question",
+        Question::FirstChild { .. } =>
+            "child 1 must be a nat for SU, RE and QU, a void for AB, a function for AP, a pair for FS and SN, a sum for CA",
+        Question::LaterChild { .. } =>
+            "child 2 of AP must have the parameter's type, child 3 of CA the type of child 2, and child 3 of RE must be a function from the type of child 2 to itself",
+        Question::StepFunction { .. } => "child 3 of RE must be an LA",
+        Question::TermHeld =>
+            "the run must hold a term, and its tables must have the length that it was started with",
+        Question::FuelLeft => "the fuel and the steps made before must be at most 1000000 together",
+        Question::ProfileAccepted =>
+            "the host must have the profile that the rule was accepted under",
+        Question::ClosedTerm { .. } =>
+            "the front table's records must be one closed term, as many as the run recorded, with query numbers below 8 and all else but indexes and type numbers 0",
+        Question::ValueHeld => "the term that the run holds must be a value",
         Question::VersionRoom => "a listing must have at most 200 versions",
         Question::LineRoom => "a sheet must have at most 1024 lines",
         Question::ProfileDigit { .. } => "each digit of the profile must be 0 to 4",
@@ -81,9 +99,20 @@ fn details(question: Question) -> &'static str {
         Question::TypeNew { .. } => TYPE_NEW,
         Question::TermEnded { .. } => TERM_ENDED,
         Question::Counts => COUNTS,
+        Question::CheckRoom => CHECK_ROOM,
         Question::EntryLaid { .. } => ENTRY_LAID,
         Question::OneTerm { .. } => ONE_TERM,
         Question::ByteRoom => BYTE_ROOM,
+        Question::IndexBound { .. } => INDEX_BOUND,
+        Question::QuestionKnown { .. } => QUESTION_KNOWN,
+        Question::FirstChild { .. } => FIRST_CHILD,
+        Question::LaterChild { .. } => LATER_CHILD,
+        Question::StepFunction { .. } => STEP_FUNCTION,
+        Question::TermHeld => TERM_HELD,
+        Question::FuelLeft => FUEL_LEFT,
+        Question::ProfileAccepted => PROFILE_ACCEPTED,
+        Question::ClosedTerm { .. } => CLOSED_TERM,
+        Question::ValueHeld => VALUE_HELD,
         Question::VersionRoom => VERSION_ROOM,
         Question::LineRoom => LINE_ROOM,
         Question::ProfileDigit { .. } => PROFILE_DIGIT,
@@ -143,6 +172,12 @@ const COUNTS: &str =
     A no means: There is no node or there are too many, or the count leaves out a given entry or passes the end of the table.\n\
     What to do: Give the nodes of one rule, and count the given six entries too.";
 
+const CHECK_ROOM: &str =
+    "Is the type table at least as long as count and nodes together, and the scratch list four times the nodes?\n\
+    Asked by check, after the counts.\n\
+    A no means: There is no room for the types that checking may add, one for each node at most, or for its notes.\n\
+    What to do: Lend a longer table or list; 5,126 entries and 16,384 numbers serve every rule.";
+
 const ENTRY_LAID: &str = "Is each entry below the count as a type table lays it down?\n\
     Asked by write, of each entry below the count; the place is the first entry at fault.\n\
     A no means: An entry is blank or of another form, differs from the given one, names itself or a later entry, or equals an earlier one.\n\
@@ -157,6 +192,56 @@ const BYTE_ROOM: &str = "Is the byte list long enough?\n\
     Asked by write, last of all.\n\
     A no means: The rule does not fit into the byte list.\n\
     What to do: Lend a longer byte list; 30,726 bytes serve every rule.";
+
+const INDEX_BOUND: &str = "Is the variable's index below the number of binders around it?\n\
+    Asked by check, on reaching a variable; the place is the node.\n\
+    A no means: The variable belongs to no binder of the rule. LA binds one variable in its child, RE one in its third child, CA one in its second and one in its third.\n\
+    What to do: Correct the index, which counts the binders between the variable and its own, or add the binder.";
+
+const QUESTION_KNOWN: &str = "Does the host have the query's question?\n\
+    Asked by check, on reaching a query; the place is the node.\n\
+    A no means: The digit of the host's profile for this question is 0. A listing has the questions 0 to 3.\n\
+    What to do: Correct the query's number, or check the rule under a host that has the question.";
+
+const FIRST_CHILD: &str = "Is the node's first child of a type that the node can take?\n\
+    Asked by check, as soon as the first child has a type; the place is the node, and the child is 1.\n\
+    A no means: A successor, a recursion or a query is of no nat, an abort of no void, an application of no function, a first or second of no pair, or a case of no sum.\n\
+    What to do: Correct the child, or the node above it.";
+
+const LATER_CHILD: &str = "Does this later child of the node agree with those before it?\n\
+    Asked by check, as soon as that child has a type; the place is the node, and the child is its number.\n\
+    A no means: An argument is not of the parameter's type, the two branches of a case have different types, or the step of a recursion is no function from the type of the second child to itself.\n\
+    What to do: Correct the child that is named or the one that it has to agree with; types agree only if they are the same.";
+
+const STEP_FUNCTION: &str = "Is the recursion's third child a function as it stands?\n\
+    Asked by check, where that child has the right type; the place is the recursion, and the child is 3.\n\
+    A no means: The child has the type of a function but begins with another node than LA.\n\
+    What to do: Write it as an LA, if need be one that applies the child to its variable.";
+
+const TERM_HELD: &str = "Does the run hold a term, and have the tables the recorded length?\n\
+    Asked by run, first of all; by look and close for the front table alone.\n\
+    A no means: The run was started with tables that did not fit the rule, or other tables were lent than those it was started with.\n\
+    What to do: Start with two tables of one length, from the rule's nodes to 4,096, and lend the same two to every call.";
+
+const FUEL_LEFT: &str = "Is the fuel at most 1,000,000 less the steps made in all?\n\
+    Asked by run, after the tables' lengths.\n\
+    A no means: With this fuel the run could make more than 1,000,000 steps.\n\
+    What to do: Ask for less fuel; a run that has made 1,000,000 steps can only be asked for 0.";
+
+const PROFILE_ACCEPTED: &str = "Is the host's profile the accepted one?\n\
+    Asked by run, after the fuel.\n\
+    A no means: The host has other questions, or answers of other shapes, than the one that the rule was checked under.\n\
+    What to do: Run under a host with the accepted profile, or check the rule again under this one.";
+
+const CLOSED_TERM: &str = "Are the front table's first records one closed term?\n\
+    Asked by run and close, of as many records as the run recorded; the place is the first record at fault, or their number where the term is not ended.\n\
+    A no means: The front table was written between the calls. Within a run this holds by itself.\n\
+    What to do: Leave the front table as the last call left it, and start anew.";
+
+const VALUE_HELD: &str = "Is the held term a value?\n\
+    Asked by close, last of all.\n\
+    A no means: The run was closed before it came to a value, so nothing is decided.\n\
+    What to do: Run on until run answers value, with more fuel or longer tables.";
 
 const VERSION_ROOM: &str = "Has the listing at most 200 versions?\n\
     Asked where a listing is made.\n\

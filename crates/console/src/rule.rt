@@ -4,7 +4,7 @@ use crate::hexadecimal::Hex;
 use crate::messages::RefusalLine;
 use calculus::entry::Entry;
 use calculus::node::Node;
-use calculus::refusal::Refusal;
+use refusals::Refusal;
 use rule_file::load::load;
 use rule_file::record::six_at;
 use rule_file::write::write;

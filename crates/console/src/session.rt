@@ -13,7 +13,7 @@ use calculus::entry::Entry;
 use calculus::form::Form;
 use calculus::kind::Kind;
 use calculus::node::Node;
-use calculus::refusal::Refusal;
+use refusals::Refusal;
 use rule_file::load::{Loaded, load};
 use rule_file::write::write;
 use std::alloc::{AllocError, Global};

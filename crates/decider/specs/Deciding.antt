@@ -8,7 +8,6 @@
 use Rattle.std.specs.Prelude.{◌≡◌, ℕ, ◌-◌, ◌<◌, ◌≤◌, List, [], length, take, Ok, Err, Result}
 use Rattle.refusals.specs.declared.Question.TheVariants as question
 use Rattle.refusals.specs.declared.Refusal.{Refusal}
-use Rattle.calculus.specs.declared.refusal.Refusal.{Refusal as FileRefusal}
 use Rattle.calculus.specs.declared.entry.Entry.{Entry}
 use Rattle.calculus.specs.declared.node.Node.{Node}
 use Rattle.calculus.specs.declared.stop.StopCause.{StopCause}
@@ -74,7 +73,7 @@ pub data Judged (nodes : List Node) (types : List Entry) (count : ℕ) (scratch 
 pub data DecideCall (file : List ℕ) (nodes : List Node) (types : List Entry) (scratch : List ℕ) (front back : List Node)
     (m : Meaning) (fuel : ℕ) : Decision → List Node → Type 0 where
   -- the file is no rule for which there is room
-  unloads : {x : FileRefusal} (nodes' : List Node) (types' : List Entry) → LoadCall file nodes types (Err x) nodes' types'
+  unloads : {x : Refusal} (nodes' : List Node) (types' : List Entry) → LoadCall file nodes types (Err x) nodes' types'
       → LoadedRule file (length nodes) (length types) (Err x) nodes' types'
       → DecideCall file nodes types scratch front back m fuel (Unloaded x) front
   -- it is the file of this rule, in a type table that begins with its entries

@@ -1,5 +1,4 @@
 // What became of a rule file.
-use calculus::refusal::Refusal as FileRefusal;
 use calculus::stop::StopCause;
 use refusals::Refusal;
 
@@ -23,5 +22,5 @@ pub enum Decision {
     // check refused the rule
     Unaccepted(Refusal),
     // load refused the file
-    Unloaded(FileRefusal),
+    Unloaded(Refusal),
 }

@@ -1,5 +1,5 @@
 // What a call answered, and whether it left what it was lent as it must.
-use calculus::refusal::Refusal;
+use refusals::Refusal;
 use rule_file::load::Loaded;
 use std::fmt;
 

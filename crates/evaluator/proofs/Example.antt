@@ -3,7 +3,8 @@ use Rattle.std.proofs.Common.{◌≡◌, ℕ, zero, suc, ◌<◌, ◌≤◌, tru
 use Rattle.calculus.specs.declared.answer.Answer.TheVariants as answer
 use Rattle.calculus.specs.Syntax.{ZE, SU, val_z, val_s, val_null, scoped_z, scoped_s, scoped_case, scoped_query, scoped_inr, scoped_null}
 use Rattle.calculus.specs.Tables.{given_entries}
-use Rattle.calculus.specs.Meanings.{flag, Lawful, digit, question_shape}
+use Rattle.calculus.specs.declared.answer.Shape.TheVariants as shape
+use Rattle.calculus.specs.Meanings.{Lawful, digit, question_shape}
 use Rattle.calculus.specs.Typing.{typing_z, typing_s, typing_case, typing_query}
 use Rattle.calculus.specs.Steps.{Step, eval_case, eval_caser, eval_answer}
 use Rattle.calculus.specs.Accepted.{Accepted}
@@ -57,7 +58,7 @@ rule_accepted = ∣ (
     given = lit≤ tt;
     named = ((tt, tt, tt));
     within = lit< tt;
-    typed = typing_case (typing_query {s = flag} refl typing_z) typing_z (typing_s typing_z);
+    typed = typing_case (typing_query {s = shape.Flag} refl typing_z) typing_z (typing_s typing_z);
   },
 ) ∣₁
 

@@ -3,7 +3,8 @@ use Rattle.std.proofs.Common.{◌≡◌, ℕ, ◌+◌, ◌<◌, ◌≤◌, Bool,
 use Rattle.std.specs.List.{AllByRecursion}
 use Rattle.calculus.specs.declared.node.Node.{Node}
 use Rattle.calculus.specs.Syntax.{Ty, Term, VA, ZE, SU, RE, LA, AP, TR, PA, FS, SN, AB, IL, IR, CA, QU, size, onto, Scoped, scoped_var}
-use Rattle.calculus.specs.Meanings.{Shape, digit, digit_shape, question_shape}
+use Rattle.calculus.specs.declared.answer.Shape.{Shape}
+use Rattle.calculus.specs.Meanings.{digit, digit_shape, question_shape}
 use Rattle.calculus.specs.Typing.{TypesBelow, Typed, typing_var, typing_z, typing_s, typing_rec, typing_abs, typing_fapp, typing_null, typing_pair, typing_fst, typing_snd, typing_abort, typing_inl, typing_inr, typing_case, typing_query}
 use Rattle.calculus.proofs.Options.{none_some}
 use Rattle.calculus.proofs.TypedScoped.{typed_scoped}

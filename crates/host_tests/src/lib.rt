@@ -6,7 +6,7 @@ mod tests {
     use calculus::answer::Answer;
     use calculus::kind::Kind;
     use calculus::node::Node;
-    use calculus::refusal::Refusal;
+    use refusals::Refusal;
     use hosts::host::Host;
     use hosts::line::Line;
     use hosts::listing::Listing;

@@ -5,8 +5,8 @@ use Rattle.std.specs.List.{slice_get}
 use Rattle.std.proofs.lemmas.List.{length-take-le}
 use Rattle.std.proofs.lemmas.Option.{slice_get-get_or}
 use Rattle.std.proofs.lemmas.Bool.{both_ways, cases_eq}
-use Rattle.calculus.specs.declared.refusal.Question.{Question}
-use Rattle.calculus.specs.declared.refusal.Question.TheVariants.{LineLegal, LineNew}
+use Rattle.refusals.specs.declared.Question.{Question}
+use Rattle.refusals.specs.declared.Question.TheVariants.{LineLegal, LineNew}
 use Rattle.calculus.proofs.Options.{none_some, same_value}
 use Rattle.types.specs.First.{Before, First}
 use Rattle.hosts.specs.declared.line.Line.{Line}

@@ -3,8 +3,8 @@ use Rattle.std.proofs.Common.{◌≡◌, ℕ, ◌<◌, ◌≤◌, cond, List, le
 use Rattle.std.specs.List.{slice_get}
 use Rattle.std.proofs.lemmas.Option.{slice_get_past}
 use Rattle.std.proofs.lemmas.Bool.{both_ways, cases_lt, cases_order}
-use Rattle.calculus.specs.declared.refusal.Question.{Question}
-use Rattle.calculus.specs.declared.refusal.Question.TheVariants.{ProfileDigit, LineLegal, LineNew}
+use Rattle.refusals.specs.declared.Question.{Question}
+use Rattle.refusals.specs.declared.Question.TheVariants.{ProfileDigit, LineLegal, LineNew}
 use Rattle.calculus.proofs.Options.{none_some, same_value}
 use Rattle.hosts.specs.declared.line.Line.{Line}
 use Rattle.hosts.specs.Lines.{legal_line}

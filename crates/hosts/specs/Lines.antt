@@ -11,7 +11,9 @@
 use Rattle.std.specs.Prelude.{ℕ, Bool, false, cond, ◌&&◌, List, [], ◌∷◌, Some, None, Option, ◌==◌, nat_le, nat_lt}
 use Rattle.calculus.specs.declared.answer.Answer.{Answer}
 use Rattle.calculus.specs.declared.answer.Answer.TheVariants as answer
-use Rattle.calculus.specs.Meanings.{Shape, number, flag, maybe, pair, digit, question_shape, largest_number, largest_asked}
+use Rattle.calculus.specs.declared.answer.Shape.{Shape}
+use Rattle.calculus.specs.declared.answer.Shape.TheVariants as shape
+use Rattle.calculus.specs.Meanings.{digit, question_shape, largest_number, largest_asked}
 use Rattle.hosts.specs.declared.line.Line.{Line}
 use Rattle.hosts.specs.declared.line.Asked.{Asked}
 
@@ -22,10 +24,10 @@ abbrev pub line_has : Asked → Line → Bool
 line_has k l = l.question == k.question && l.number == k.number
 
 abbrev pub shape_legal : Shape → ℕ → ℕ → Bool
-shape_legal number a b = nat_le a largest_number && b == 0
-shape_legal flag a b = nat_le a 1 && b == 0
-shape_legal maybe a b = cond (a == 0) (b == 0) (a == 1 && nat_le b largest_number)
-shape_legal pair a b = nat_le a largest_number && nat_le b largest_number
+shape_legal shape.Number a b = nat_le a largest_number && b == 0
+shape_legal shape.Flag a b = nat_le a 1 && b == 0
+shape_legal shape.Maybe a b = cond (a == 0) (b == 0) (a == 1 && nat_le b largest_number)
+shape_legal shape.Pair a b = nat_le a largest_number && nat_le b largest_number
 
 abbrev pub legal : Option Shape → ℕ → ℕ → Bool
 legal None a b = false
@@ -35,10 +37,10 @@ abbrev pub legal_line : ℕ → Line → Bool
 legal_line p l = nat_le l.number largest_asked && legal (question_shape p l.question) l.a l.b
 
 abbrev pub shape_answer : Shape → ℕ → ℕ → Answer
-shape_answer number a b = answer.Number a
-shape_answer flag a b = answer.Flag (a == 1)
-shape_answer maybe a b = answer.Maybe (cond (a == 0) None (Some b))
-shape_answer pair a b = answer.Pair a b
+shape_answer shape.Number a b = answer.Number a
+shape_answer shape.Flag a b = answer.Flag (a == 1)
+shape_answer shape.Maybe a b = answer.Maybe (cond (a == 0) None (Some b))
+shape_answer shape.Pair a b = answer.Pair a b
 
 abbrev pub answer_in : Option Shape → ℕ → ℕ → Option Answer
 answer_in None a b = None

@@ -8,14 +8,15 @@ use Rattle.std.proofs.lemmas.Bool.{ne_eqb}
 use Rattle.std.specs.List.{slice_get}
 use Rattle.std.specs.Option.{option_map}
 use Rattle.calculus.specs.declared.answer.Answer.{Answer}
-use Rattle.calculus.specs.Meanings.{flag, maybe, pair, Lawful, largest_number, largest_asked, question_shape, answer_shape, Bounded}
+use Rattle.calculus.specs.declared.answer.Shape.TheVariants as shape
+use Rattle.calculus.specs.Meanings.{Lawful, largest_number, largest_asked, question_shape, answer_shape, Bounded}
 use Rattle.calculus.specs.Examples.{empty_answers, empty_listing}
 use Rattle.calculus.proofs.EmptyListing.{empty_lawful}
 use Rattle.calculus.proofs.Options.{none_some, some_injective, cond_some, mapped_some}
 use Rattle.hosts.specs.declared.version.Version.{Version}
 use Rattle.hosts.specs.Listed.{listed, listed_answers, most_versions, version_age, version_gone, version_name}
 
-age_shape : (today : ℕ) (v : Option Version) → answer_shape (version_age today v) ≡ maybe
+age_shape : (today : ℕ) (v : Option Version) → answer_shape (version_age today v) ≡ shape.Maybe
 age_shape today None = refl
 age_shape today (Some v) = refl
 
@@ -23,7 +24,7 @@ age_bounded : (today : ℕ) (v : Option Version) → Bounded (version_age today 
 age_bounded today None = tt
 age_bounded today (Some v) = omega arith
 
-gone_shape : (today : ℕ) (v : Option Version) → answer_shape (version_gone today v) ≡ flag
+gone_shape : (today : ℕ) (v : Option Version) → answer_shape (version_gone today v) ≡ shape.Flag
 gone_shape today None = refl
 gone_shape today (Some v) = refl
 
@@ -31,7 +32,7 @@ gone_bounded : (today : ℕ) (v : Option Version) → Bounded (version_gone toda
 gone_bounded today None = tt
 gone_bounded today (Some v) = tt
 
-name_shape : (v : Option Version) → answer_shape (version_name v) ≡ pair
+name_shape : (v : Option Version) → answer_shape (version_name v) ≡ shape.Pair
 name_shape None = refl
 name_shape (Some v) = refl
 

@@ -10,7 +10,9 @@ use Rattle.std.specs.List.{slice_get}
 use Rattle.std.proofs.lemmas.Bool.{and_parts, cases_Bool, eqb-true, leb-true, leb-false, lt-leb}
 use Rattle.calculus.specs.declared.answer.Answer.{Answer}
 use Rattle.calculus.specs.declared.answer.Answer.TheVariants as answer
-use Rattle.calculus.specs.Meanings.{Shape, number, flag, maybe, pair, Lawful, question_shape, answer_shape, Bounded, largest_number, largest_asked}
+use Rattle.calculus.specs.declared.answer.Shape.{Shape}
+use Rattle.calculus.specs.declared.answer.Shape.TheVariants as shape
+use Rattle.calculus.specs.Meanings.{Lawful, question_shape, answer_shape, Bounded, largest_number, largest_asked}
 use Rattle.calculus.proofs.Options.{none_some, some_injective, cond_some}
 use Rattle.hosts.specs.declared.line.Line.{Line}
 use Rattle.hosts.specs.declared.line.Asked.{Asked}
@@ -18,10 +20,10 @@ use Rattle.hosts.specs.Lines.{line_has, shape_legal, legal, legal_line, shape_an
 use Rattle.hosts.specs.Sheets.{asked, line_answer, sheet_answers, sheet, LegalSheet}
 
 in_shape : (s : Shape) (a b : ℕ) → answer_shape (shape_answer s a b) ≡ s
-in_shape number a b = refl
-in_shape flag a b = refl
-in_shape maybe a b = refl
-in_shape pair a b = refl
+in_shape shape.Number a b = refl
+in_shape shape.Flag a b = refl
+in_shape shape.Maybe a b = refl
+in_shape shape.Pair a b = refl
 
 maybe_bounded : (x : Bool) (a b : ℕ) → cond x (b == 0) (a == 1 && nat_le b largest_number) ≡ true
     → Bounded (answer.Maybe (cond x None (Some b)))
@@ -29,18 +31,18 @@ maybe_bounded true a b h = tt
 maybe_bounded false a b h = leb-true b largest_number (and_parts (a == 1) (nat_le b largest_number) h).1
 
 legal_bounded : (s : Shape) (a b : ℕ) → shape_legal s a b ≡ true → Bounded (shape_answer s a b)
-legal_bounded number a b h = leb-true a largest_number (and_parts (nat_le a largest_number) (b == 0) h).0
-legal_bounded flag a b h = tt
-legal_bounded maybe a b h = maybe_bounded (a == 0) a b h
-legal_bounded pair a b h =
+legal_bounded shape.Number a b h = leb-true a largest_number (and_parts (nat_le a largest_number) (b == 0) h).0
+legal_bounded shape.Flag a b h = tt
+legal_bounded shape.Maybe a b h = maybe_bounded (a == 0) a b h
+legal_bounded shape.Pair a b h =
     let both = and_parts (nat_le a largest_number) (nat_le b largest_number) h in
     (leb-true a largest_number both.0, leb-true b largest_number both.1)
 
 zeros_bounded : (s : Shape) → Bounded (shape_answer s 0 0)
-zeros_bounded number = lit≤ tt
-zeros_bounded flag = tt
-zeros_bounded maybe = tt
-zeros_bounded pair = (lit≤ tt, lit≤ tt)
+zeros_bounded shape.Number = lit≤ tt
+zeros_bounded shape.Flag = tt
+zeros_bounded shape.Maybe = tt
+zeros_bounded shape.Pair = (lit≤ tt, lit≤ tt)
 
 -- an answer in a shape has it, and there is one exactly in a shape
 answer_shaped : (s : Option Shape) (l : Option Line) (r : Answer) → line_answer s l ≡ Some r → s ≡ Some (answer_shape r)

@@ -15,9 +15,10 @@
 use Rattle.std.specs.Prelude.{◌≡◌, ℕ, ◌<◌, ◌≤◌, true, false, cond, List, length, Some, None, Option, nat_le}
 use Rattle.std.specs.List.{slice_get}
 use Rattle.calculus.specs.declared.answer.Answer.{Answer}
-use Rattle.calculus.specs.declared.refusal.Question.{Question}
-use Rattle.calculus.specs.declared.refusal.Question.TheVariants.{LineRoom, ProfileDigit, LineLegal, LineNew}
-use Rattle.calculus.specs.Meanings.{Shape, Meaning, digit, question_shape, largest_asked}
+use Rattle.refusals.specs.declared.Question.{Question}
+use Rattle.refusals.specs.declared.Question.TheVariants.{LineRoom, ProfileDigit, LineLegal, LineNew}
+use Rattle.calculus.specs.declared.answer.Shape.{Shape}
+use Rattle.calculus.specs.Meanings.{Meaning, digit, question_shape, largest_asked}
 use Rattle.types.specs.First.{Before}
 use Rattle.hosts.specs.declared.line.Line.{Line}
 use Rattle.hosts.specs.declared.line.Asked.{Asked}

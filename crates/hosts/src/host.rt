@@ -4,7 +4,7 @@ ghost use Rattle.hosts.specs.Made.{in_host};
 ghost use Rattle.calculus.specs.Meanings.{Meaning, Lawful, largest_asked};
 
 use calculus::answer::Answer;
-use calculus::refusal::{Layer, Question, Refusal};
+use refusals::{Layer, Question, Refusal};
 
 // The largest number in an answer.
 pub const LARGEST_NUMBER: u16 = 255;

@@ -1,6 +1,6 @@
 // The listing: a host that reads versions from a lent list, by the day.
 ghost use Rattle.std.specs.Prelude.{◌≡◌, ◌<◌, ◌≤◌, length, MatchResult};
-ghost use Rattle.calculus.specs.declared.refusal.Question.TheVariants.{VersionRoom};
+ghost use Rattle.refusals.specs.declared.Question.TheVariants.{VersionRoom};
 ghost use Rattle.calculus.specs.Examples.{empty_listing};
 ghost use Rattle.hosts.specs.Made.{in_host};
 ghost use Rattle.hosts.specs.Listed.{listed, most_versions, EmptyOnEveryDay};
@@ -10,7 +10,7 @@ use crate::host::{Host, LARGEST_ASKED, refused};
 use crate::reading;
 use crate::version::Version;
 use calculus::answer::Answer;
-use calculus::refusal::{Question, Refusal};
+use refusals::{Question, Refusal};
 
 // The most versions of a listing.
 pub const MOST_VERSIONS: usize = 200;

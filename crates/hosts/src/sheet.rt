@@ -9,7 +9,7 @@ ghost use Rattle.hosts.specs.SheetLaw.{sheet_lawful};
 use crate::host::{Host, LARGEST_ASKED, refused};
 use crate::line::{Asked, Line, answer_of, digit_of, is_legal_line};
 use calculus::answer::Answer;
-use calculus::refusal::{Question, Refusal};
+use refusals::{Question, Refusal};
 use types::keyed::first_with_key;
 
 // The most lines of a sheet.

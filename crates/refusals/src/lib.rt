@@ -4,17 +4,36 @@
 ghost use Rattle.std.specs.Prelude.{◌≡◌};
 ghost use Rattle.refusals.specs.Refusals.{layer_number_lem, question_numbers, report_of};
 
-// A layer of the product. The same question has another layer in another call.
+// A layer of the product, with its number. The same question has another layer in another call.
 #[derive(Clone, Copy, PartialEq, Eq, Debug)]
 pub enum Layer {
     // load and write
-    File,
+    File = 1,
     // check
-    Check,
+    Check = 2,
     // run, look and close
-    Run,
+    Run = 3,
     // making hosts
-    Host,
+    Host = 4,
+}
+
+impl Layer {
+    // The refusal of a question by a call of this layer.
+    pub fn refuse(self, question: Question) -> Refusal
+        ensures value { result ≡ record { layer = self; question = question } }
+    {
+        Refusal {
+            layer: self,
+            question,
+        }
+    }
+
+    // The layer's number: 1 to 4.
+    fn number(self) -> u8
+        ensures value { result ≡ layer_number_lem self }
+    {
+        self as u8
+    }
 }
 
 // A question that a call puts, in the order of their numbers. A case holds its place where it has one: places count
@@ -105,22 +124,11 @@ impl Refusal {
     {
         let (number, place, child) = numbers(self.question);
         Report {
-            layer: layer_number(self.layer),
+            layer: self.layer.number(),
             number,
             place,
             child,
         }
-    }
-}
-
-fn layer_number(layer: Layer) -> u8
-    ensures { result ≡ layer_number_lem layer }
-{
-    match layer {
-        Layer::File => 1,
-        Layer::Check => 2,
-        Layer::Run => 3,
-        Layer::Host => 4,
     }
 }
 

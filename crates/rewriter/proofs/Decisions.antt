@@ -8,7 +8,8 @@ use Rattle.calculus.specs.declared.answer.Answer.{Answer}
 use Rattle.calculus.specs.declared.kind.Kind.TheVariants.{Rec, Apply, Fst, Snd, Case}
 use Rattle.calculus.specs.declared.node.Node.{Node}
 use Rattle.calculus.specs.Syntax.{Term, VA, ZE, SU, RE, LA, AP, TR, PA, FS, SN, AB, IL, IR, CA, QU, onto, numeral, put, one, Value, val_z, val_s, val_abs, val_null, val_prod, val_inl, val_inr}
-use Rattle.calculus.specs.Meanings.{Shape, Meaning, LawfulUnder, question_shape, largest_asked, reply}
+use Rattle.calculus.specs.declared.answer.Shape.{Shape}
+use Rattle.calculus.specs.Meanings.{Meaning, LawfulUnder, question_shape, largest_asked, reply}
 use Rattle.calculus.specs.Steps.{Step, eval_fapp_left, eval_fapp_right, eval_beta, eval_rec_scrut, eval_rec_z, eval_rec_s, eval_fst, eval_snd, eval_fst_val, eval_snd_val, eval_abort, eval_case, eval_casel, eval_caser, eval_query, eval_answer}
 use Rattle.calculus.specs.Next.{number?}
 use Rattle.calculus.proofs.Options.{none_some}

@@ -5,9 +5,9 @@ use lib.Seq.{take-append-add}
 use Rattle.std.proofs.lemmas.List.{take_at, take-take, append-nil, length-take-le}
 use Rattle.calculus.specs.declared.entry.Entry.{Entry}
 use Rattle.calculus.specs.declared.node.Node.{Node}
-use Rattle.calculus.specs.declared.refusal.Question.{Question}
-use Rattle.calculus.specs.declared.refusal.Question.TheVariants.{FileLength, FileHead, FileRecords, TableRoom, TermUnended, SectionMark, NumberRange, TypeNew, TermEnded, Counts, EntryLaid, OneTerm, ByteRoom, VersionRoom, LineRoom, ProfileDigit, LineLegal, LineNew}
-use Rattle.calculus.specs.declared.refusal.Refusal.{Refusal}
+use Rattle.refusals.specs.declared.Question.{Question}
+use Rattle.refusals.specs.declared.Question.TheVariants.{TableRoom}
+use Rattle.refusals.specs.declared.Refusal.{Refusal}
 use Rattle.calculus.specs.Kinds.{blank}
 use Rattle.calculus.specs.Forms.{empty}
 use Rattle.terms.specs.Ranges.{AllInRange}
@@ -21,8 +21,9 @@ use Rattle.rule_file.specs.declared.load.Loaded.{Loaded}
 use Rattle.rule_file.specs.Files.{Rule, file_of, Bytes}
 use Rattle.rule_file.specs.Records.{sort_by_mark, is_head, entry_of}
 use Rattle.rule_file.specs.Loading.{or_else, type_count, node_count, type_records, node_records, head_fits_lem, head_question, room_question, type_questions, node_questions, body_question, load_question, entries_in, nodes_in, in_file, answer_of, filled, LoadCall}
-use Rattle.rule_file.specs.Writing.{CountsFit, file_length, Unwritable, WriteCall}
-use Rattle.rule_file.specs.Accepted.{Holds, LoadedRule, TypePlace, NodePlace, Placed, RefusedAt, WritesBack, LoadsBack}
+use Rattle.types.specs.Counts.{CountsFit}
+use Rattle.rule_file.specs.Writing.{file_length, Unwritable, counts_unfit, entry_at_fault, node_at_fault, too_long, WriteCall}
+use Rattle.rule_file.specs.Accepted.{Holds, LoadedRule, TypePlace, NodePlace, Placed, whole_length, whole_head, whole_records, whole_room, at_unended, at_mark, at_number, at_new, at_end, RefusedAt, WritesBack, LoadsBack}
 use Rattle.rule_file.proofs.Questions.{no_question, or_else_none, or_else_some}
 use Rattle.rule_file.proofs.TypeRecords.{OnType, types_refused}
 use Rattle.rule_file.proofs.NodeRecords.{OnNode, nodes_refused}
@@ -72,13 +73,13 @@ loaded_rule file nodes types (Err r) nodes' types' bytes call = λ es ns rule is
 
 head_placed : (file : List ℕ) (a b c : Bool) (q : Question) → head_asked a b c ≡ Some q → Placed file q
 head_placed file true true true q e = no_question (sym e)
-head_placed file true true false q e = subst (Placed file) (sym (some_same e)) tt
-head_placed file true false c q e = subst (Placed file) (sym (some_same e)) tt
-head_placed file false b c q e = subst (Placed file) (sym (some_same e)) tt
+head_placed file true true false q e = subst (Placed file) (sym (some_same e)) whole_records
+head_placed file true false c q e = subst (Placed file) (sym (some_same e)) whole_head
+head_placed file false b c q e = subst (Placed file) (sym (some_same e)) whole_length
 
 room_placed : (file : List ℕ) (b : Bool) (q : Question) → cond b None (Some TableRoom) ≡ Some q → Placed file q
 room_placed file true q e = no_question (sym e)
-room_placed file false q e = subst (Placed file) (sym (some_same e)) tt
+room_placed file false q e = subst (Placed file) (sym (some_same e)) whole_room
 
 map_take : {X Y : Type 0} (f : X → Y) (k : ℕ) (xs : List X) → map f (take k xs) ≡ take k (map f xs)
 map_take f zero xs = refl
@@ -92,9 +93,9 @@ first_entries file i =
     ∙ sym (take-append-add given_entries (map entry_of (type_records file)) i)
 
 on_type_placed : (file : List ℕ) (q : Question) (p : ℕ) → TypePlace file p → OnType q p → Placed file q
-on_type_placed file q p t (inl e) = subst (Placed file) (sym e) (inl t)
-on_type_placed file q p t (inr (inl e)) = subst (Placed file) (sym e) (inl t)
-on_type_placed file q p t (inr (inr e)) = subst (Placed file) (sym e) t
+on_type_placed file q p t (inl e) = subst (Placed file) (sym e) (at_mark (inl t))
+on_type_placed file q p t (inr (inl e)) = subst (Placed file) (sym e) (at_number (inl t))
+on_type_placed file q p t (inr (inr e)) = subst (Placed file) (sym e) (at_new t)
 
 type_placed : (file : List ℕ) (q : Question) → Headed file → type_questions 1 given_entries (type_records file) ≡ Some q → Placed file q
 type_placed file q h e =
@@ -118,10 +119,10 @@ type_placed file q h e =
 
 on_node_placed : (file : List ℕ) (q : Question) (p : ℕ) (last : Type 0) → NodePlace file p → (last → p ≡ 1 + type_count file + node_count file)
     → OnNode q p last → Placed file q
-on_node_placed file q p last t end (inl e) = subst (Placed file) (sym e) t
-on_node_placed file q p last t end (inr (inl e)) = subst (Placed file) (sym e) (inr t)
-on_node_placed file q p last t end (inr (inr (inl e))) = subst (Placed file) (sym e) (inr t)
-on_node_placed file q p last t end (inr (inr (inr e))) = subst (Placed file) (sym e.0) (t, end e.1)
+on_node_placed file q p last t end (inl e) = subst (Placed file) (sym e) (at_unended t)
+on_node_placed file q p last t end (inr (inl e)) = subst (Placed file) (sym e) (at_mark (inr t))
+on_node_placed file q p last t end (inr (inr (inl e))) = subst (Placed file) (sym e) (at_number (inr t))
+on_node_placed file q p last t end (inr (inr (inr e))) = subst (Placed file) (sym e.0) (at_end t (end e.1))
 
 -- nodes with no fault but their end begin some term
 begun : (types k : ℕ) (ns : List Node) → (fault types 1 (take k ns) ≡ None) ⊎ (fault types 1 (take k ns) ≡ Some k) → Begins types (take k ns)
@@ -205,27 +206,13 @@ module _ (es : List Entry) (ns : List Node) (rule : Rule es ns) (types : List En
   writable_term : Whole.OneTerm count ns
   writable_term = subst (λ c. Whole.OneTerm c ns) (sym many) rule.term
 
-  writes : (q : Question) → Unwritable ns types count room q → ⊥
-  writes Counts u = u fit
-  writes (EntryLaid k) u =
-      u.1.2 (laid_front (take (suc k) (take count types)) (drop (suc k) (take count types))
+  writes : {q : Question} → Unwritable ns types count room q → ⊥
+  writes (counts_unfit u) = u fit
+  writes (entry_at_fault {k = k} _ t) =
+      t.2 (laid_front (take (suc k) (take count types)) (drop (suc k) (take count types))
       (subst LaidDown (sym is ∙ sym (take-append-drop (suc k) (take count types))) rule.table))
-  writes (OneTerm k) u = u.2.3 writable_term
-  writes ByteRoom u = omega (arith, u.3)
-  writes FileLength u = u
-  writes FileHead u = u
-  writes FileRecords u = u
-  writes TableRoom u = u
-  writes (TermUnended k) u = u
-  writes (SectionMark k) u = u
-  writes (NumberRange k) u = u
-  writes (TypeNew k) u = u
-  writes (TermEnded k) u = u
-  writes VersionRoom u = u
-  writes LineRoom u = u
-  writes (ProfileDigit k) u = u
-  writes (LineLegal k) u = u
-  writes (LineNew k) u = u
+  writes (node_at_fault _ _ f) = f.3 writable_term
+  writes (too_long _ _ _ n) = omega arith
 
 written_back : (es : List Entry) (ns : List Node) → Rule es ns → (types : List Entry) (count : ℕ) (bytes bytes' : List ℕ) (r : Result ℕ Refusal)
     → take count types ≡ es → count ≡ length es → count ≤ length types → length (file_of es ns) ≤ length bytes
@@ -239,7 +226,7 @@ written_back es ns rule types count bytes bytes' (Ok n) is many within room call
 written_back es ns rule types count bytes bytes' (Err x) is many within room call =
     let long : file_length count (length ns) ≤ length bytes =
     rw many (rw (file_long es ns rule) at room) in
-    absurd (writes es ns rule types count (length bytes) is many within long call.0.0 call.0.2)
+    absurd (writes es ns rule types count (length bytes) is many within long call.0.2)
 
 filled_long : {X : Type 0} (xs : List X) (unused : X) (room : ℕ) → length xs ≤ length (filled xs unused room)
 filled_long xs unused room = simp length-append (omega arith)

@@ -4,8 +4,8 @@ use Rattle.std.specs.List.{flat_map}
 use Rattle.std.proofs.lemmas.Bool.{true≢false, and_parts, eqb-true, cases_Bool}
 use Rattle.std.proofs.lemmas.Bool.Decides.{nat_tests}
 use Rattle.calculus.specs.declared.node.Node.{Node}
-use Rattle.calculus.specs.declared.refusal.Question.{Question}
-use Rattle.calculus.specs.declared.refusal.Question.TheVariants.{TermUnended, SectionMark, NumberRange, TermEnded}
+use Rattle.refusals.specs.declared.Question.{Question}
+use Rattle.refusals.specs.declared.Question.TheVariants.{TermUnended, SectionMark, NumberRange, TermEnded}
 use Rattle.calculus.specs.Kinds.{arity}
 use Rattle.terms.specs.Ranges.{in_range}
 use Rattle.terms.specs.Scan.{fault, further}

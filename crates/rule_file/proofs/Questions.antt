@@ -3,8 +3,8 @@ use Rattle.std.proofs.Common.{◌≡◌, ℕ, ◌+◌, ◌-◌, ◌<◌, ◌≤�
 use Rattle.std.proofs.lemmas.List.{at_drop_more, at_drop_all, take_more, take_more_set, map-append, append_assoc, take_all}
 use Rattle.std.proofs.lemmas.Bool.Decides.{nat_tests}
 use Rattle.calculus.specs.declared.entry.Entry.{Entry}
-use Rattle.calculus.specs.declared.refusal.Question.{Question}
-use Rattle.calculus.specs.declared.refusal.Question.TheVariants.{TermEnded}
+use Rattle.refusals.specs.declared.Question.{Question}
+use Rattle.refusals.specs.declared.Question.TheVariants.{TermEnded}
 use Rattle.calculus.specs.Kinds.{arity}
 use Rattle.calculus.specs.Tables.{given_entries}
 use Rattle.rule_file.specs.Records.{kind_in, entry_of}

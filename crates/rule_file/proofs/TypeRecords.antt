@@ -4,8 +4,8 @@ use Rattle.std.specs.List.{flat_map}
 use Rattle.std.proofs.lemmas.List.{append_assoc, append-nil}
 use Rattle.std.proofs.lemmas.Bool.{true≢false, and_parts, and_from, ltb-true, le-ltb}
 use Rattle.calculus.specs.declared.entry.Entry.{Entry}
-use Rattle.calculus.specs.declared.refusal.Question.{Question}
-use Rattle.calculus.specs.declared.refusal.Question.TheVariants.{SectionMark, NumberRange, TypeNew}
+use Rattle.refusals.specs.declared.Question.{Question}
+use Rattle.refusals.specs.declared.Question.TheVariants.{SectionMark, NumberRange, TypeNew}
 use Rattle.calculus.specs.Forms.{joins, empty}
 use Rattle.calculus.specs.Tables.{given_entries, same_entry, occurs, laid, LaidDown}
 use Rattle.types.proofs.Laid.{laid_more, laid_last, laid_front}

@@ -10,9 +10,9 @@
 use Rattle.std.specs.Prelude.{◌≡◌, ℕ, ◌+◌, ◌<◌, ◌≤◌, ◌⊎◌, List, [], ◌++◌, length, take, drop, Some, Ok, Err, Result, ◌≢◌, slice_index_or}
 use Rattle.calculus.specs.declared.entry.Entry.{Entry}
 use Rattle.calculus.specs.declared.node.Node.{Node}
-use Rattle.calculus.specs.declared.refusal.Question.{Question}
-use Rattle.calculus.specs.declared.refusal.Question.TheVariants.{FileLength, FileHead, FileRecords, TableRoom, TermUnended, SectionMark, NumberRange, TypeNew, TermEnded, Counts, EntryLaid, OneTerm, ByteRoom, VersionRoom, LineRoom, ProfileDigit, LineLegal, LineNew}
-use Rattle.calculus.specs.declared.refusal.Refusal.{Refusal}
+use Rattle.refusals.specs.declared.Question.{Question}
+use Rattle.refusals.specs.declared.Question.TheVariants.{FileLength, FileHead, FileRecords, TableRoom, TermUnended, SectionMark, NumberRange, TypeNew, TermEnded}
+use Rattle.refusals.specs.declared.Refusal.{Refusal}
 use Rattle.calculus.specs.Kinds.{blank}
 use Rattle.calculus.specs.Forms.{empty}
 use Rattle.terms.specs.Whole.{Begins, FirstFault}
@@ -52,25 +52,16 @@ NodePlace file p =
     × Begins (6 + type_count file) (take k (nodes_in file))
     × (FirstFault (6 + type_count file) (nodes_in file) k ⊎ (second_number_lem (slice_index_or (node_records file) k []) ≢ 0))
 
-abbrev pub Placed : List ℕ → Question → Type 0
-Placed file FileLength = Unit {0}
-Placed file FileHead = Unit {0}
-Placed file FileRecords = Unit {0}
-Placed file TableRoom = Unit {0}
-Placed file (TermUnended p) = NodePlace file p
-Placed file (SectionMark p) = TypePlace file p ⊎ NodePlace file p
-Placed file (NumberRange p) = TypePlace file p ⊎ NodePlace file p
-Placed file (TypeNew p) = TypePlace file p
-Placed file (TermEnded p) = NodePlace file p × (p ≡ 1 + type_count file + node_count file)
-Placed file Counts = ⊥
-Placed file (EntryLaid p) = ⊥
-Placed file (OneTerm p) = ⊥
-Placed file ByteRoom = ⊥
-Placed file VersionRoom = ⊥
-Placed file LineRoom = ⊥
-Placed file (ProfileDigit p) = ⊥
-Placed file (LineLegal p) = ⊥
-Placed file (LineNew p) = ⊥
+pub data Placed (file : List ℕ) : Question → Type 0 where
+  whole_length : Placed file FileLength
+  whole_head : Placed file FileHead
+  whole_records : Placed file FileRecords
+  whole_room : Placed file TableRoom
+  at_unended : {p : ℕ} → NodePlace file p → Placed file (TermUnended p)
+  at_mark : {p : ℕ} → TypePlace file p ⊎ NodePlace file p → Placed file (SectionMark p)
+  at_number : {p : ℕ} → TypePlace file p ⊎ NodePlace file p → Placed file (NumberRange p)
+  at_new : {p : ℕ} → TypePlace file p → Placed file (TypeNew p)
+  at_end : {p : ℕ} → NodePlace file p → p ≡ 1 + type_count file + node_count file → Placed file (TermEnded p)
 
 abbrev pub RefusedAt : List ℕ → Result Loaded Refusal → Type 0
 RefusedAt file (Ok loaded) = Unit {0}

@@ -20,10 +20,10 @@ use Rattle.std.specs.Prelude.{◌≡◌, ℕ, ◌+◌, ◌-◌, ◌*◌, ◌/◌
 use Rattle.std.specs.Simd.{first_chunks}
 use Rattle.calculus.specs.declared.entry.Entry.{Entry}
 use Rattle.calculus.specs.declared.node.Node.{Node}
-use Rattle.calculus.specs.declared.refusal.Layer.TheVariants.{File}
-use Rattle.calculus.specs.declared.refusal.Question.{Question}
-use Rattle.calculus.specs.declared.refusal.Question.TheVariants.{FileLength, FileHead, FileRecords, TableRoom, TermUnended, SectionMark, NumberRange, TypeNew, TermEnded}
-use Rattle.calculus.specs.declared.refusal.Refusal.{Refusal}
+use Rattle.refusals.specs.declared.Layer.TheVariants.{File}
+use Rattle.refusals.specs.declared.Question.{Question}
+use Rattle.refusals.specs.declared.Question.TheVariants.{FileLength, FileHead, FileRecords, TableRoom, TermUnended, SectionMark, NumberRange, TypeNew, TermEnded}
+use Rattle.refusals.specs.declared.Refusal.{Refusal}
 use Rattle.calculus.specs.Kinds.{arity, blank}
 use Rattle.calculus.specs.Forms.{empty}
 use Rattle.terms.specs.Ranges.{in_range}

@@ -10,7 +10,7 @@ ghost use Rattle.rule_file.specs.Loading.{head_fits_lem, head_question, HeadOf, 
 use crate::record::{Head, Record, entry_of, head_of, node_of, record_of, second_number};
 use calculus::entry::Entry;
 use calculus::node::Node;
-use calculus::refusal::{Layer, Question, Refusal};
+use refusals::{Layer, Question, Refusal};
 use terms::is_in_range;
 use types::table::{GIVEN, is_new};
 

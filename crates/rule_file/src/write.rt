@@ -1,16 +1,17 @@
 // Writing: from a node table and a type table to the bytes of a file.
-ghost use Rattle.std.specs.Prelude.{◌≡◌, ℕ, ◌+◌, ◌*◌, ◌≤◌, List, ◌∷◌, ◌++◌, length, take, drop, MatchBool, MatchOption, slice_index};
+ghost use Rattle.std.specs.Prelude.{◌≡◌, ℕ, ◌+◌, ◌*◌, ◌≤◌, List, ◌∷◌, ◌++◌, length, take, drop, MatchOption, slice_index};
 ghost use Rattle.std.specs.List.{flat_map};
 ghost use Rattle.rule_file.specs.Files.{low_high, head_bytes, entry_bytes, node_bytes, file_of};
 ghost use Rattle.rule_file.specs.Accepted.{LoadsBack};
-ghost use Rattle.rule_file.specs.Writing.{CountsFit, file_length, Writable, Unwritable, WriteCall};
+ghost use Rattle.rule_file.specs.Writing.{file_length, Writable, Unwritable, WriteCall};
 ghost use Rattle.std.proofs.Common.{rules};
 
 use crate::load::refused;
 use crate::record::Head;
 use calculus::entry::Entry;
 use calculus::node::Node;
-use calculus::refusal::{Question, Refusal};
+use refusals::{Question, Refusal};
+use types::table::counts_fit;
 
 // What is written as one record of six bytes.
 pub trait Encode {
@@ -59,13 +60,6 @@ impl Encode for Node {
     fn encode(&self) -> [u8; 6] {
         six(self.kind.mark(), self.number, 0)
     }
-}
-
-// Question 10.
-fn counts_fit(nodes: usize, types: usize, count: usize) -> bool
-    ensures value { MatchBool result (CountsFit nodes types count) (CountsFit nodes types count → ⊥) }
-{
-    1 <= nodes && nodes <= 4096 && 6 <= count && count <= 1030 && count <= types
 }
 
 // Questions 10, 12, 13 and 14.
