@@ -1,5 +1,5 @@
 -- Digits of a profile, by shifts, and the first that is too high. Assumes nothing.
-use Rattle.std.proofs.Common.{◌≡◌, ℕ, zero, suc, ◌+◌, ◌*◌, ◌/◌, ◌%◌, ◌^◌, ◌<◌, ◌≤◌, Some, None, Option, cond, bit_and, sym, refl, ap, add-one, ◌∙◌, arith, MatchOption}
+use Rattle.std.proofs.Common.{◌≡◌, ℕ, zero, suc, ◌+◌, ◌*◌, ◌/◌, ◌%◌, ◌^◌, ◌<◌, ◌≤◌, Some, None, Option, bit_and, sym, refl, ap, add-one, ◌∙◌, arith, MatchOption}
 use Rattle.std.proofs.lemmas.Bool.{cond-true, lt-ltb}
 use Rattle.std.proofs.lemmas.Nat.{and_mask, pow-add}
 use Rattle.calculus.specs.Meanings.{digit}
@@ -24,7 +24,7 @@ shifted_digit p q h =
 -- the first high digit of the eight
 pub high_first : (p : ℕ) (r : Option ℕ)
     → MatchOption r ((k : ℕ) → 0 ≤ k → k < 8 → question_digit p k ≤ 4)
-      (λ i. (0 ≤ i) × (i < 8) × (4 < question_digit p i) × ((k : ℕ) → 0 ≤ k → k < i → question_digit p k ≤ 4))
+    (λ i. (0 ≤ i) × (i < 8) × (4 < question_digit p i) × ((k : ℕ) → 0 ≤ k → k < i → question_digit p k ≤ 4))
     → MatchOption r (DigitsBelow p 8) (λ k. (k < 8) × DigitsBelow p k × (4 < digit p k))
 high_first p None a = λ k h. rw (asked_digit p k h) at (a k (omega arith) h)
 high_first p (Some i) (z, l, f, a) = (
