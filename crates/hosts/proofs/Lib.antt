@@ -1,3 +1,4 @@
+pub mod Digits
 pub mod EmptyDays
 pub mod FirstLines
 pub mod Replies

@@ -1,10 +1,8 @@
 // What is known of every host: a meaning, which is lawful, and two calls that answer by it and keep it.
 ghost use Rattle.std.specs.Prelude.{◌≡◌, ◌<◌, None};
-ghost use Rattle.hosts.specs.Made.{in_host};
 ghost use Rattle.calculus.specs.Meanings.{Meaning, Lawful, largest_asked};
 
 use calculus::answer::Answer;
-use refusals::{Layer, Question, Refusal};
 
 // The largest number in an answer.
 pub const LARGEST_NUMBER: u16 = 255;
@@ -45,14 +43,4 @@ pub fn ask_twice<H: Host>(
     let first = host.query(question, number);
     let second = host.query(question, number);
     (first, second)
-}
-
-// The refusal of a question in making a host.
-pub(crate) fn refused(question: Question) -> Refusal
-    ensures value { result ≡ in_host question }
-{
-    Refusal {
-        layer: Layer::Host,
-        question,
-    }
 }

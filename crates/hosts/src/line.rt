@@ -1,14 +1,15 @@
 // A line of a sheet: the answer to a question at a number; which lines are legal, and what they answer.
 ghost use Rattle.std.specs.Prelude.{◌≡◌};
-ghost use Rattle.calculus.specs.Meanings.{digit_shape};
-ghost use Rattle.hosts.specs.Lines.{question_digit, line_has, legal, legal_line, answer_in};
+ghost use Rattle.calculus.specs.Meanings.{digit_shape, question_shape};
+ghost use Rattle.hosts.specs.Lines.{question_digit, line_has, shape_legal, legal_line, shape_answer};
+ghost use Rattle.hosts.specs.Sheets.{asked_of};
 
 use crate::host::{LARGEST_ASKED, LARGEST_NUMBER};
-use calculus::answer::Answer;
+use calculus::answer::{Answer, Shape};
 use types::keyed::Keyed;
 
 // A number or a flag is a, with b 0; a flag is 0 or 1. A maybe is a 0 with b 0, or a 1 and b the number. A pair is a and b.
-#[derive(Clone, Copy)]
+#[derive(Clone, Copy, PartialEq, Eq, Debug)]
 pub struct Line {
     pub question: u16,
     pub number: u16,
@@ -17,17 +18,28 @@ pub struct Line {
 }
 
 // What a line is for: a question at a number.
-#[derive(Clone, Copy)]
+#[derive(Clone, Copy, PartialEq, Eq, Debug)]
 pub struct Asked {
     pub question: u16,
     pub number: u16,
+}
+
+impl From<&Line> for Asked {
+    ghost from_gives = { λ line asked. asked ≡ asked_of line.now };
+
+    fn from(line: &Line) -> Asked {
+        Asked {
+            question: line.question,
+            number: line.number,
+        }
+    }
 }
 
 impl Keyed<Asked> for Line {
     ghost keyed = { line_has };
 
     fn has_key(&self, key: &Asked) -> bool {
-        self.question == key.question && self.number == key.number
+        Asked::from(self) == *key
     }
 }
 
@@ -35,44 +47,55 @@ impl Keyed<Asked> for Line {
 pub fn digit_of(profile: u32, question: u16) -> u32
     ensures value { result ≡ question_digit profile question }
 {
-    match question {
-        0 => profile % 16,
-        1 => profile / 0x10 % 16,
-        2 => profile / 0x100 % 16,
-        3 => profile / 0x1000 % 16,
-        4 => profile / 0x1_0000 % 16,
-        5 => profile / 0x10_0000 % 16,
-        6 => profile / 0x100_0000 % 16,
-        7 => profile / 0x1000_0000 % 16,
-        _ => 0,
+    if question < 8 {
+        profile >> (4 * question) & 15
+    } else {
+        0
     }
 }
 
-// The answer of a and b in the shape that a digit stands for, or none where it stands for none.
-pub fn answer_of(digit: u32, a: u16, b: u16) -> Option<Answer>
-    ensures value { result ≡ answer_in (digit_shape digit) a b }
+// The shape that a digit stands for, or none where it stands for none.
+pub fn shape_of_digit(digit: u32) -> Option<Shape>
+    ensures value { result ≡ digit_shape digit }
 {
     match digit {
-        1 => Some(Answer::Number(a)),
-        2 => Some(Answer::Flag(a == 1)),
-        3 if a == 0 => Some(Answer::Maybe(None)),
-        3 => Some(Answer::Maybe(Some(b))),
-        4 => Some(Answer::Pair(a, b)),
+        1 => Some(Shape::Number),
+        2 => Some(Shape::Flag),
+        3 => Some(Shape::Maybe),
+        4 => Some(Shape::Pair),
         _ => None,
     }
 }
 
-// Whether a and b are an answer in the shape that a digit stands for.
-pub fn is_legal(digit: u32, a: u16, b: u16) -> bool
-    ensures value { result ≡ legal (digit_shape digit) a b }
+// The shape of a question's answers under a profile, or none where the profile has no such question.
+pub fn shape_of(profile: u32, question: u16) -> Option<Shape>
+    ensures value { result ≡ question_shape profile question }
 {
-    match digit {
-        1 => a <= LARGEST_NUMBER && b == 0,
-        2 => a <= 1 && b == 0,
-        3 if a == 0 => b == 0,
-        3 => a == 1 && b <= LARGEST_NUMBER,
-        4 => a <= LARGEST_NUMBER && b <= LARGEST_NUMBER,
-        _ => false,
+    shape_of_digit(digit_of(profile, question))
+}
+
+// The answer that a and b are in a shape.
+pub fn answer_of(shape: Shape, a: u16, b: u16) -> Answer
+    ensures value { result ≡ shape_answer shape a b }
+{
+    match shape {
+        Shape::Number => Answer::Number(a),
+        Shape::Flag => Answer::Flag(a == 1),
+        Shape::Maybe => Answer::Maybe((a != 0).then_some(b)),
+        Shape::Pair => Answer::Pair(a, b),
+    }
+}
+
+// Whether a and b are an answer in a shape.
+pub fn is_legal(shape: Shape, a: u16, b: u16) -> bool
+    ensures value { result ≡ shape_legal shape a b }
+{
+    match shape {
+        Shape::Number => a <= LARGEST_NUMBER && b == 0,
+        Shape::Flag => a <= 1 && b == 0,
+        Shape::Maybe if a == 0 => b == 0,
+        Shape::Maybe => a == 1 && b <= LARGEST_NUMBER,
+        Shape::Pair => a <= LARGEST_NUMBER && b <= LARGEST_NUMBER,
     }
 }
 
@@ -80,5 +103,6 @@ pub fn is_legal(digit: u32, a: u16, b: u16) -> bool
 pub fn is_legal_line(profile: u32, line: &Line) -> bool
     ensures value { result ≡ legal_line profile line.now }
 {
-    line.number <= LARGEST_ASKED && is_legal(digit_of(profile, line.question), line.a, line.b)
+    let shape = shape_of(profile, line.question);
+    line.number <= LARGEST_ASKED && shape.is_some_and(|shape| is_legal(shape, line.a, line.b))
 }

@@ -6,11 +6,11 @@ ghost use Rattle.hosts.specs.Made.{in_host};
 ghost use Rattle.hosts.specs.Listed.{listed, most_versions, EmptyOnEveryDay};
 ghost use Rattle.hosts.specs.ListedLaw.{listed_lawful};
 
-use crate::host::{Host, LARGEST_ASKED, refused};
+use crate::host::{Host, LARGEST_ASKED};
 use crate::reading;
 use crate::version::Version;
 use calculus::answer::Answer;
-use refusals::{Question, Refusal};
+use refusals::{Layer, Question, Refusal};
 
 // The most versions of a listing.
 pub const MOST_VERSIONS: usize = 200;
@@ -39,7 +39,7 @@ impl<'a> Listing<'a> {
         ensures call { MatchResult result (λ _. (length versions.now ≤ most_versions) × (self.new.versions.now ≡ versions.now) × (self.new.today ≡ today)) (λ e. (most_versions < length versions.now) × (e ≡ in_host VersionRoom) × (self.new ≡ self.old)) }
     {
         if versions.len() > MOST_VERSIONS {
-            return Err(refused(Question::VersionRoom));
+            return Err(Layer::Host.refuse(Question::VersionRoom));
         }
         *self = Listing { versions, today };
         Ok(())

@@ -1,9 +1,10 @@
-// What a listing answers of one version, or of a version that it does not have.
+// What a listing answers of one version, or of a version that it does not have. List, day and number are parameters, and
+// these are no methods of a listing, since they promise this of lists of any length. Each looks the version up itself, as
+// each answers another value without one.
 ghost use Rattle.std.specs.Prelude.{◌≡◌};
 ghost use Rattle.std.specs.List.{slice_get};
 ghost use Rattle.hosts.specs.Listed.{version_age, version_gone, version_name};
 
-use crate::host::LARGEST_NUMBER;
 use crate::version::Version;
 use calculus::answer::Answer;
 
@@ -14,8 +15,7 @@ pub fn age_of(versions: &[Version], today: u16, number: u16) -> Answer
     let Some(version) = versions.get(usize::from(number)) else {
         return Answer::Maybe(None);
     };
-    let days = today.saturating_sub(version.published);
-    Answer::Maybe(Some(days.min(LARGEST_NUMBER)))
+    Answer::Maybe(Some(version.age(today)))
 }
 
 // Whether a version is withdrawn by today.
@@ -25,7 +25,7 @@ pub fn is_gone(versions: &[Version], today: u16, number: u16) -> Answer
     let Some(version) = versions.get(usize::from(number)) else {
         return Answer::Flag(true);
     };
-    Answer::Flag(version.withdrawn != 0 && version.withdrawn <= today)
+    Answer::Flag(version.is_gone(today))
 }
 
 // A version's line and patch.

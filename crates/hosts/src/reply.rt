@@ -21,20 +21,21 @@ pub fn answer_length(answer: Answer) -> usize
     }
 }
 
-// Writes the numeral of a number from the place `at` on.
-fn put_numeral(number: u16, out: &mut [Node], at: usize)
-    requires { at + number < length out.old }
-    ensures after { out.new ≡ take at out.old ++ (flat (numeral number) ++ drop (at + (number + 1)) out.old) }
+// A node of a kind with a number.
+fn node_of(kind: Kind, number: u16) -> Node
+    ensures value { result ≡ node kind number }
 {
-    let end = at + usize::from(number);
-    out[at..end].fill(Node {
-        kind: Kind::Successor,
-        number: 0,
-    });
-    out[end] = Node {
-        kind: Kind::Zero,
-        number: 0,
-    };
+    Node { kind, number }
+}
+
+// Writes the numeral of a number.
+fn put_numeral(number: u16, out: &mut [Node])
+    requires { number < length out.old }
+    ensures after { out.new ≡ flat (numeral number) ++ drop (number + 1) out.old }
+{
+    let end = usize::from(number);
+    out[..end].fill(node_of(Kind::Successor, 0));
+    out[end] = node_of(Kind::Zero, 0);
 }
 
 // Writes a node and a triv below it.
@@ -42,11 +43,8 @@ fn put_triv(kind: Kind, number: u16, out: &mut [Node])
     requires { 2 ≤ length out.old }
     ensures after { out.new ≡ node kind number ∷ (node Triv 0 ∷ drop 2 out.old) }
 {
-    out[0] = Node { kind, number };
-    out[1] = Node {
-        kind: Kind::Triv,
-        number: 0,
-    };
+    out[0] = node_of(kind, number);
+    out[1] = node_of(Kind::Triv, 0);
 }
 
 // Writes a number that is present.
@@ -54,11 +52,8 @@ fn put_present(number: u16, out: &mut [Node])
     requires { number + 2 ≤ length out.old }
     ensures after { out.new ≡ flat (IR 1 (numeral number)) ++ drop (number + 2) out.old }
 {
-    out[0] = Node {
-        kind: Kind::Inr,
-        number: 1,
-    };
-    put_numeral(number, out, 1);
+    out[0] = node_of(Kind::Inr, 1);
+    put_numeral(number, &mut out[1..]);
 }
 
 // Writes a pair of numbers.
@@ -66,12 +61,9 @@ fn put_pair(m: u16, n: u16, out: &mut [Node])
     requires { m + n + 3 ≤ length out.old }
     ensures after { out.new ≡ flat (PA (numeral m) (numeral n)) ++ drop (m + n + 3) out.old }
 {
-    out[0] = Node {
-        kind: Kind::Pair,
-        number: 0,
-    };
-    put_numeral(m, out, 1);
-    put_numeral(n, out, usize::from(m) + 2);
+    out[0] = node_of(Kind::Pair, 0);
+    put_numeral(m, &mut out[1..]);
+    put_numeral(n, &mut out[usize::from(m) + 2..]);
 }
 
 // Writes an answer for which there is room.
@@ -80,7 +72,7 @@ fn put_reply(answer: Answer, out: &mut [Node])
     ensures after { out.new ≡ flat (reply answer) ++ drop (size (reply answer)) out.old }
 {
     match answer {
-        Answer::Number(n) => put_numeral(n, out, 0),
+        Answer::Number(n) => put_numeral(n, out),
         Answer::Flag(false) => put_triv(Kind::Inl, 1, out),
         Answer::Flag(true) => put_triv(Kind::Inr, 1, out),
         Answer::Maybe(None) => put_triv(Kind::Inl, 0, out),

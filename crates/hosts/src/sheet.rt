@@ -6,10 +6,10 @@ ghost use Rattle.hosts.specs.Lines.{line_for_lem};
 ghost use Rattle.hosts.specs.Sheets.{most_lines, asked, sheet, DigitsBelow, LegalBelow, LegalSheet, LineFault, SheetFault, ExactFault};
 ghost use Rattle.hosts.specs.SheetLaw.{sheet_lawful};
 
-use crate::host::{Host, LARGEST_ASKED, refused};
-use crate::line::{Asked, Line, answer_of, digit_of, is_legal_line};
+use crate::host::{Host, LARGEST_ASKED};
+use crate::line::{Asked, Line, answer_of, digit_of, is_legal_line, shape_of};
 use calculus::answer::Answer;
-use refusals::{Question, Refusal};
+use refusals::{Layer, Question, Refusal};
 use types::keyed::first_with_key;
 
 // The most lines of a sheet.
@@ -27,54 +27,42 @@ pub struct Sheet<'a> {
 fn line_for(lines: &[Line], question: u16, number: u16) -> Option<Line>
     ensures value { result ≡ line_for_lem (asked question number) lines.now }
 {
-    let Some(i) = first_with_key(lines, &Asked { question, number }) else {
-        return None;
-    };
-    Some(lines[i])
+    first_with_key(lines, &Asked { question, number }).map(|i| lines[i])
 }
 
 // Question 42: the first digit of a profile above 4.
 fn high_digit(profile: u32) -> Option<u16>
     ensures first { MatchOption result (DigitsBelow profile 8) (λ k. (k < 8) × DigitsBelow profile k × (4 < digit profile k)) }
 {
-    for k in 0..8u16 {
-        if digit_of(profile, k) > 4 {
-            return Some(k);
-        }
-    }
-    None
+    (0..8u16).find(|k| digit_of(profile, *k) > 4)
 }
 
 // Questions 43 and 44, line by line.
-fn line_fault(profile: u32, lines: &[Line]) -> Option<Question>
+fn line_fault(profile: u32, lines: &[Line]) -> Result<(), Question>
     requires { length lines.now ≤ most_lines }
-    ensures first { MatchOption result (LegalBelow profile lines.now (length lines.now)) (λ q. LineFault profile lines.now q) }
+    ensures first { MatchResult result (λ _. LegalBelow profile lines.now (length lines.now)) (λ q. LineFault profile lines.now q) }
 {
     for (i, line) in lines.iter().enumerate() {
         let place = i as u16;
         if !is_legal_line(profile, line) {
-            return Some(Question::LineLegal { place });
+            return Err(Question::LineLegal { place });
         }
-        let key = Asked {
-            question: line.question,
-            number: line.number,
-        };
-        if first_with_key(&lines[0..i], &key).is_some() {
-            return Some(Question::LineNew { place });
+        if first_with_key(&lines[..i], &Asked::from(line)).is_some() {
+            return Err(Question::LineNew { place });
         }
     }
-    None
+    Ok(())
 }
 
 // Questions 41 to 44.
-fn sheet_fault(profile: u32, lines: &[Line]) -> Option<Question>
-    ensures first { MatchOption result (LegalSheet profile lines.now) (λ q. SheetFault profile lines.now q) }
+fn sheet_fault(profile: u32, lines: &[Line]) -> Result<(), Question>
+    ensures first { MatchResult result (λ _. LegalSheet profile lines.now) (λ q. SheetFault profile lines.now q) }
 {
     if lines.len() > MOST_LINES {
-        return Some(Question::LineRoom);
+        return Err(Question::LineRoom);
     }
     if let Some(place) = high_digit(profile) {
-        return Some(Question::ProfileDigit { place });
+        return Err(Question::ProfileDigit { place });
     }
     line_fault(profile, lines)
 }
@@ -95,9 +83,7 @@ impl<'a> Sheet<'a> {
         ensures call { MatchResult result (λ _. LegalSheet profile lines.now × (self.new.profile ≡ profile) × (self.new.lines.now ≡ lines.now)) (λ e. ((q : Question) × (e ≡ in_host q) × SheetFault profile lines.now q) × (self.new ≡ self.old)) }
         ensures exact { ExactFault profile lines.now }
     {
-        if let Some(question) = sheet_fault(profile, lines) {
-            return Err(refused(question));
-        }
+        sheet_fault(profile, lines).map_err(|question| Layer::Host.refuse(question))?;
         *self = Sheet { profile, lines };
         Ok(())
     }
@@ -116,10 +102,9 @@ impl<'a> Host for Sheet<'a> {
         if number > LARGEST_ASKED {
             return None;
         }
-        let digit = digit_of(self.profile, question);
-        let Some(line) = line_for(self.lines, question, number) else {
-            return answer_of(digit, 0, 0);
-        };
-        answer_of(digit, line.a, line.b)
+        let shape = shape_of(self.profile, question)?;
+        let line = line_for(self.lines, question, number);
+        let (a, b) = line.map_or((0, 0), |line| (line.a, line.b));
+        Some(answer_of(shape, a, b))
     }
 }

@@ -4,12 +4,10 @@ use Rattle.std.proofs.lemmas.List.{append_assoc, length_push, length-take-le, se
 use Rattle.std.proofs.lemmas.Bool.{cond-true, cond-false}
 use Rattle.calculus.specs.declared.entry.Entry.{Entry}
 use Rattle.calculus.specs.Tables.{same_entry, occurs}
+use Rattle.calculus.proofs.Options.{some_injective}
 use Rattle.types.specs.First.{Before, First}
 use Rattle.types.specs.Adding.{index_of, with_entry}
 use Rattle.types.proofs.Laid.{occurs_first}
-
-some_same : {A : Type 0} {x y : A} → Some x ≡ Some y → x ≡ y
-some_same e = cc
 
 -- what is before an index in a longer list is before it in the rest
 before_rest : (k e : Entry) (es : List Entry) (i : ℕ) → Before (same_entry k) (e ∷ es) (suc i) → Before (same_entry k) es i
@@ -18,7 +16,7 @@ before_rest k e es i b j x h n = b (suc j) x (omega arith) n
 pub index_found : (k : Entry) (es : List Entry) (i : ℕ) → First (same_entry k) es (Some i) → index_of k es ≡ i
 index_found k [] i f = absurd (omega (arith, f.0))
 index_found k (e ∷ es) zero f =
-    cond-true (same_entry k e) 0 (suc (index_of k es)) (ap (same_entry k) (some_same f.1.1) ∙ f.1.2)
+    cond-true (same_entry k e) 0 (suc (index_of k es)) (ap (same_entry k) (some_injective f.1.1) ∙ f.1.2)
 index_found k (e ∷ es) (suc i) f =
     cond-false (same_entry k e) 0 (suc (index_of k es)) (f.2 0 e (omega arith) refl)
     ∙ ap suc (index_found k es i (omega (arith, f.0), (f.1.0, f.1.1, f.1.2), before_rest k e es i f.2))
@@ -56,7 +54,7 @@ set_missing k ts count h f =
 
 -- an entry that occurs has a number of the table, and one that does not has the next
 pub index_in : (k : Entry) (es : List Entry) → occurs k es ≡ true → index_of k es < length es
-index_in k [] o = absurd (let z : ◌≡◌ {A = ℕ} 0 1 = cc in omega arith)
+index_in k [] o = cc
 index_in k (e ∷ es) o = by (same_entry k e) (index_in k es) o
   where
     by : (b : Bool) → (occurs k es ≡ true → index_of k es < length es) → b || occurs k es ≡ true
@@ -70,7 +68,7 @@ index_new k (e ∷ es) o = by (same_entry k e) (index_new k es) o
   where
     by : (b : Bool) → (occurs k es ≡ false → index_of k es ≡ length es) → b || occurs k es ≡ false
         → cond b 0 (suc (index_of k es)) ≡ suc (length es)
-    by true rest p = absurd (let z : ◌≡◌ {A = ℕ} 0 1 = cc in omega arith)
+    by true rest p = cc
     by false rest p = ap suc (rest p)
 
 -- the table grows by at most one entry, and has the entry's number

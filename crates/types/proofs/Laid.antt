@@ -1,8 +1,9 @@
 -- When entries are equal, when one occurs in a list, and when entries are laid down. Assumes nothing.
-use Rattle.std.proofs.Common.{◌≡◌, ℕ, zero, suc, ◌+◌, ◌-◌, ◌<◌, ◌≤◌, Bool, true, false, List, [], ◌∷◌, ◌++◌, length, get_or, take, is_some, Some, None, Decides, Option, sym, refl, ap, ◌∙◌, ⊎_elim, add-one, arith}
-use native.Mathlib.Nat.{sub-zero}
-use Rattle.std.specs.List.{ContainsAt as Has}
-use Rattle.std.proofs.lemmas.List.{get_or_append_left, get_or_default, get_or_push, get_or_read, get_or-take, length-append, length_push, length-take-le, take_all, take_more}
+use Rattle.std.proofs.Common.{◌≡◌, ℕ, zero, suc, ◌<◌, ◌≤◌, Bool, true, false, List, [], ◌∷◌, ◌++◌, length, get_or, take, is_some, Some, None, Decides, Option, sym, refl, ap, ◌∙◌, ⊎_elim, zero-add, MatchOption, arith}
+use Rattle.std.specs.List.{ContainsAt as Has, AllWithin, HoldsAt, enumerate_from}
+use Rattle.std.proofs.Math.Seq.{take-suc}
+use Rattle.std.proofs.lemmas.List.FromFn.{get_or-enumerate_from, length-enumerate_from}
+use Rattle.std.proofs.lemmas.List.{get_or_append_left, get_or_default, get_or_push, get_or-take, length-append, length_push, length-take-le, take_all}
 use Rattle.std.proofs.lemmas.Option.{slice_get-get_or}
 use Rattle.std.proofs.lemmas.Bool.{both_ways, cases_Bool, cases_lt, cond-false, cond-true, le-ltb, lt-ltb}
 use Rattle.std.proofs.lemmas.Bool.Decides.{Decides-and, Decides-at, Decides-by_or, Decides-eqb, Decides-like, Decides-ltb, Decides-not, not_from_Decides}
@@ -113,15 +114,10 @@ laid_front es fs d = record {
     within : (i : ℕ) → i < length es → i < length (es ++ fs)
     within i l = omega (arith, length-append es fs)
 
--- what `laid` answers at a given place, where the given entry may be one that was read
+-- what `laid` answers at a given place
 laid_is : (es : List Entry) (e : Entry) → length es < 6
     → laid es e ≡ same_entry (get_or given_entries (length es) empty) e
 laid_is es e h = cond-true _ _ _ (lt-ltb (length es) 6 h)
-
-pub laid_read : (es : List Entry) (e g : Entry) (r : Bool) → length es < 6 → g ≡ get_or given_entries (length es) g
-    → r ≡ same_entry g e → r ≡ laid es e
-laid_read es e g r h q p =
-    p ∙ ap (λ k. same_entry k e) (get_or_read given_entries (length es) g h q empty) ∙ sym (laid_is es e h)
 
 -- what `laid` decides at a given place, and at a later one
 laid_low : (es : List Entry) (e : Entry) → length es < 6
@@ -180,23 +176,32 @@ laid_more es e d t = record {
       (sym (get_or_append_left es (e ∷ []) empty i (omega (arith, length_push es e))) ∙ q);
 }
 
--- The loop over the entries, at the entry x that it reads; `take (i - 0)` is how a part from 0 to i reads.
+-- The search for the first entry at fault, over the entries with their places.
 
-read_more : (es : List Entry) (i : ℕ) (x : Entry) → i < length es → x ≡ get_or es i x
-    → take (i + 1) es ≡ take i es ++ (x ∷ [])
-read_more es i x h r = take_more es i x h ∙ ap (λ y. take i es ++ (y ∷ [])) (sym r)
+abbrev pub Laid : List Entry → Bool → ℕ × Entry → Type 0
+Laid es b p = laid (take p.0 es) p.1 ≡ b
 
-pub laid_again : (es : List Entry) (i : ℕ) (x : Entry) → i < length es → x ≡ get_or es i x
-    → LaidDown (take i es) → true ≡ laid (take (i - 0) es) x → LaidDown (take (i + 1) es)
-laid_again es i x h r d t =
-    rw (read_more es i x h r) (laid_more (take i es) x d (sym (rw (sub-zero i) at t)))
+placed : (es : List Entry) (k : ℕ) → k < length es → get_or (enumerate_from 0 es) k (0, empty) ≡ (k, get_or es k empty)
+placed es k h = get_or-enumerate_from 0 es k (0, empty) h ∙ ap (λ n. (n, get_or es k empty)) (zero-add k)
 
-pub laid_stop : (es : List Entry) (i : ℕ) (x : Entry) → i < length es → x ≡ get_or es i x
-    → LaidDown (take i es) → false ≡ laid (take (i - 0) es) x → TableJudged es (Some i)
-laid_stop es i x h r d f =
-    let m : LaidDown (take (suc i) es) → laid (take i es) x ≡ true =
-    λ l. laid_last (take i es) x (rw (← add-one, read_more es i x h r) at l) in
-    (h, d, λ l. both_ways _ (sym (rw (sub-zero i) at f)) (m l))
+laid_below : (es : List Entry) (n : ℕ) → n ≤ length es → AllWithin (Laid es true) (enumerate_from 0 es) 0 n → LaidDown (take n es)
+laid_below es zero h a = laid_front [] given_entries laid_given
+laid_below es (suc n) h a =
+    let l : n < length es = omega arith in
+    rw (take-suc es n empty l)
+    (laid_more (take n es) (get_or es n empty) (laid_below es n (omega arith) (λ k d z m. a k d z (omega arith)))
+    (rw (placed es n l) at (a n (0, empty) (omega arith) (omega arith))))
 
-pub laid_all : (es : List Entry) (i : ℕ) → length es ≤ i → LaidDown (take i es) → TableJudged es None
-laid_all es i h d = rw (take_all i es h) at d
+pub laid_judged : (es : List Entry) (r : Option ℕ)
+    → MatchOption r (AllWithin (Laid es true) (enumerate_from 0 es) 0 (length (enumerate_from 0 es)))
+    (λ i. (i < length (enumerate_from 0 es)) × HoldsAt (Laid es false) (enumerate_from 0 es) i × AllWithin (Laid es true) (enumerate_from 0 es) 0 i)
+    → TableJudged es r
+laid_judged es None a =
+    let n = length-enumerate_from 0 es in
+    rw (take_all (length es) es (omega arith)) at (laid_below es (length es) (omega arith) (λ k d z m. a k d z (omega arith)))
+laid_judged es (Some i) (l, f, a) =
+    let n = length-enumerate_from 0 es in
+    let h : i < length es = omega arith in
+    let m : LaidDown (take (suc i) es) → laid (take i es) (get_or es i empty) ≡ true =
+    λ d. laid_last (take i es) (get_or es i empty) (rw (take-suc es i empty h) at d) in
+    (h, laid_below es i (omega arith) a, λ d. both_ways _ (rw (placed es i h) at (f (0, empty))) (m d))

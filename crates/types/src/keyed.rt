@@ -15,10 +15,5 @@ pub trait Keyed<K> {
 pub fn first_with_key<K, T: Keyed<K>>(entries: &[T], key: &K) -> Option<usize>
     ensures first { First (T.keyed key.now) entries.now result }
 {
-    for (i, x) in entries.iter().enumerate() {
-        if x.has_key(key) {
-            return Some(i);
-        }
-    }
-    None
+    entries.iter().position(|x| x.has_key(key))
 }

@@ -13,7 +13,7 @@ impl Keyed<Entry> for Entry {
     ghost keyed = { same_entry };
 
     fn has_key(&self, key: &Entry) -> bool {
-        *self == *key
+        self == key
     }
 }
 
@@ -51,14 +51,23 @@ pub const GIVEN: [Entry; 6] = [
     },
 ];
 
+// The most nodes of a rule.
+pub const MOST_NODES: usize = 4096;
+
+// The most types of a rule.
+pub const MOST_TYPES: usize = 1030;
+
 // Question 10: whether a rule may have so many nodes and so many types, by a type table of the length `types`.
 pub fn counts_fit(nodes: usize, types: usize, count: usize) -> bool
     ensures value { MatchBool result (CountsFit nodes types count) (CountsFit nodes types count → ⊥) }
 {
-    1 <= nodes && nodes <= 4096 && 6 <= count && count <= 1030 && count <= types
+    (1..=MOST_NODES).contains(&nodes)
+        && (GIVEN.len()..=MOST_TYPES).contains(&count)
+        && count <= types
 }
 
 // Whether none of the entries equals this one.
+#[tactic(auto, using(crate::proofs::Laid::occurs_first))]
 pub fn is_new(entry: &Entry, earlier: &[Entry]) -> bool
     ensures value { result ≡ not (occurs entry.now earlier.now) }
 {
@@ -71,8 +80,8 @@ pub fn is_laid(entry: &Entry, earlier: &[Entry]) -> bool
     ensures value { result ≡ laid earlier.now entry.now }
 {
     let own = earlier.len();
-    if own < 6 {
-        return *entry == GIVEN[own];
+    if let Some(given) = GIVEN.get(own) {
+        return entry == given;
     }
     let joins = matches!(entry.form, Form::Function | Form::Product | Form::Sum);
     let lower = usize::from(entry.left) < own && usize::from(entry.right) < own;
@@ -80,14 +89,15 @@ pub fn is_laid(entry: &Entry, earlier: &[Entry]) -> bool
 }
 
 // The number of an entry in the table of the first `count` entries, and the count once it is in it: where it is missing, it
-// is added at the end.
+// is added at the end. The table and its count are two parameters, since check is lent them so: its form is fixed.
 pub fn add(types: &mut [Entry], count: usize, entry: Entry) -> (u16, usize)
-    requires { (count < length types.old) × (count < 2 ^ 16) }
+    requires room { count < length types.old }
+    requires numbered { count < 2 ^ 16 }
     ensures number { result.0 ≡ index_of entry (take count types.old) }
     ensures count { result.1 ≡ length (with_entry (take count types.old) entry) }
     ensures after { types.new ≡ with_entry (take count types.old) entry ++ drop result.1 types.old }
 {
-    if let Some(i) = first_with_key(&types[0..count], &entry) {
+    if let Some(i) = first_with_key(&types[..count], &entry) {
         return (i as u16, count);
     }
     types[count] = entry;
@@ -98,12 +108,10 @@ pub fn add(types: &mut [Entry], count: usize, entry: Entry) -> (u16, usize)
 pub fn first_fault(entries: &[Entry]) -> Option<usize>
     ensures judged { TableJudged entries.now result }
 {
-    for (i, entry) in entries.iter().enumerate() {
-        if !is_laid(entry, &entries[0..i]) {
-            return Some(i);
-        }
-    }
-    None
+    entries
+        .iter()
+        .enumerate()
+        .position(|(i, entry)| !is_laid(entry, &entries[..i]))
 }
 
 #[cfg(test)]

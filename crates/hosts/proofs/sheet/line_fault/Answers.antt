@@ -12,14 +12,14 @@ pub returns-then-is_some : goal.returns-then-is_some
 returns-then-is_some c =
     record {
       first =
-          line_again _ _ _ _ c.loop-i-test.true c.loop-i.invariant _ (sym c.if-not-is_legal_line.ensures.value)
-          c.first_with_key.ensures.first (sym c.if-is_some.ensures);
+          line_again _ _ _ _ c.loop-i-test.true c.loop-i.invariant _ _ (sym c.if-not-is_legal_line.ensures.value)
+          (c.from.ensures, c.first_with_key.ensures.first) (sym c.if-is_some.ensures);
     }
 
 pub loop-i-preserved : goal.loop-i-preserved
 loop-i-preserved c =
-    legal_more _ _ _ _ c.loop-i-test.true c.loop-i.invariant _ (sym c.if-not-is_legal_line.ensures.value)
-    c.first_with_key.ensures.first (sym c.if-is_some.ensures)
+    legal_more _ _ _ _ c.loop-i-test.true c.loop-i.invariant _ _ (sym c.if-not-is_legal_line.ensures.value)
+    (c.from.ensures, c.first_with_key.ensures.first) (sym c.if-is_some.ensures)
 
 pub returns : goal.returns
 returns c = record { first = λ k l h. c.loop-i.invariant k l (search rules) }

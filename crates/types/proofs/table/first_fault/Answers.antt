@@ -1,12 +1,16 @@
-use Rattle.std.proofs.Common.{rules}
-use Rattle.types.proofs.Laid.{laid_again, laid_stop, laid_all}
+use Rattle.std.proofs.Common.{true, false, rules}
+use Rattle.std.proofs.lemmas.Iterator.{YieldsList-from_slice, IsFirst-from_position}
+use Rattle.std.proofs.lemmas.Iterator.Consumers.{YieldsList-from_enumerate}
+use borrow.Author.Tests.{tests}
+use Rattle.types.proofs.Laid.{Laid, laid_judged}
 use Rattle.types.proofs.table.first_fault.Goals as goal
 
-pub returns-then-not-is_laid : goal.returns-then-not-is_laid
-returns-then-not-is_laid c = let f = c.if-not-is_laid.ensures.value in search (rules, laid_stop)
-
-pub loop-i-preserved : goal.loop-i-preserved
-loop-i-preserved c = let t = c.if-not-is_laid.ensures.value in search (rules, laid_again)
-
 pub returns : goal.returns
-returns c = search (rules, laid_all)
+returns c =
+    let es = c.args.entries.now in
+    record {
+      judged = laid_judged es _
+          (IsFirst-from_position _ _ c.position.result (Laid es false) (Laid es true) c.position.ensures.ran
+          (YieldsList-from_enumerate (YieldsList-from_slice es (cc)) (cc)) (λ x q k. search (rules, tests))
+          (λ x q k. search (rules, tests)));
+    }
