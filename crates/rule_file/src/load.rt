@@ -211,6 +211,7 @@ impl<'a> ReadRule<'a> {
         requires { length self.now.nodes.now ≤ length nodes.old }
         ensures { nodes.new ≡ filled (map node_of self.now.nodes.now) blank (length nodes.old) }
     {
+        // Each place looks up its record: std says nothing of what the nodes are after a zip over iter_mut.
         for (i, node) in nodes.iter_mut().enumerate() {
             *node = self.nodes.get(i).map_or(Node::BLANK, node_of);
         }

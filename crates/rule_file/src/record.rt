@@ -1,5 +1,5 @@
 // The records of a file, each still a part of it, and what they say.
-ghost use Rattle.std.specs.Prelude.{◌≡◌, ◌+◌, ◌*◌, ◌/◌, ◌≤◌, length, take, drop, IfSome, MatchOption};
+ghost use Rattle.std.specs.Prelude.{◌≡◌, ◌*◌, ◌/◌, ◌≤◌, length, take, drop, IfSome, MatchOption};
 ghost use Rattle.rule_file.specs.Records.{bytes_of, sort_of, sort_by_mark, first_number_lem, second_number_lem, entry_of, node_of};
 
 use calculus::entry::Entry;

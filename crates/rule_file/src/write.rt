@@ -1,5 +1,5 @@
 // Writing: from a node table and a type table to the bytes of a file.
-ghost use Rattle.std.specs.Prelude.{◌≡◌, ℕ, ◌+◌, ◌*◌, ◌≤◌, List, ◌∷◌, ◌++◌, length, take, drop, MatchResult, IfOk, slice_index};
+ghost use Rattle.std.specs.Prelude.{◌≡◌, ℕ, ◌*◌, ◌≤◌, List, ◌∷◌, ◌++◌, length, take, drop, MatchResult, IfOk, slice_index};
 ghost use Rattle.std.specs.List.{flat_map};
 ghost use Rattle.rule_file.specs.Files.{low_high, head_bytes, entry_bytes, node_bytes, file_of};
 ghost use Rattle.rule_file.specs.Accepted.{LoadsBack};
