@@ -49,6 +49,7 @@ impl Encode for Entry {
 
     ghost six = { Prim.search rules };
 
+    #[tactic(auto, using(crate::proofs::Marks::form_items))]
     fn encode(&self) -> [u8; 6] {
         six(self.form.mark(), self.left, self.right)
     }
@@ -59,6 +60,7 @@ impl Encode for Node {
 
     ghost six = { Prim.search rules };
 
+    #[tactic(auto, using(crate::proofs::Marks::kind_items))]
     fn encode(&self) -> [u8; 6] {
         six(self.kind.mark(), self.number, 0)
     }
