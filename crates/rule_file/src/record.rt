@@ -56,7 +56,8 @@ pub fn first_number(six: &[u8; 6]) -> u16
     u16::from_le_bytes([six[2], six[3]])
 }
 
-// The second of a record's two numbers, low byte first.
+// The second of a record's two numbers, low byte first. Two functions, each named for its number: one that takes the place
+// would be no shorter, and its callers would say the place.
 pub fn second_number(six: &[u8; 6]) -> u16
     ensures value { result ≡ second_number_lem six.now }
 {
