@@ -6,4 +6,5 @@ pub mod Writes
 pub mod TypeRecords
 pub mod NodeRecords
 pub mod Rules
+pub mod Laying
 pub mod Meaning

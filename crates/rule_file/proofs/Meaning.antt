@@ -24,22 +24,19 @@ use Rattle.rule_file.specs.Loading.{or_else, type_count, node_count, type_record
 use Rattle.types.specs.Counts.{CountsFit}
 use Rattle.rule_file.specs.Writing.{file_length, Unwritable, counts_unfit, entry_at_fault, node_at_fault, too_long, WriteCall}
 use Rattle.rule_file.specs.Accepted.{Holds, LoadedRule, TypePlace, NodePlace, Placed, whole_length, whole_head, whole_records, whole_room, at_unended, at_mark, at_number, at_new, at_end, RefusedAt, WritesBack, LoadsBack}
-use Rattle.rule_file.proofs.Questions.{no_question, or_else_none, or_else_some}
+use Rattle.rule_file.proofs.Questions.{no_question, same_question, or_else_none, or_else_some}
 use Rattle.rule_file.proofs.TypeRecords.{OnType, types_refused}
 use Rattle.rule_file.proofs.NodeRecords.{OnNode, nodes_refused}
 use Rattle.rule_file.proofs.Rules.{head_asked, Headed, headed, length_types, length_nodes, types_counted, nodes_counted, file_long, entries_back, nodes_back, rule_passes, some_node, passed_rule, passed_room, passed_file, entries_many, nodes_many}
-
-some_same : {a b : Question} → Some a ≡ Some b → b ≡ a
-some_same e = cc
 
 -- Answers.
 
 ok_answer : (x l : Loaded) (o : Option Question) → answer_of x o ≡ Ok l → (o ≡ None) × (x ≡ l)
 ok_answer x l None e = (refl, cc)
-ok_answer x l (Some q) e = absurd (let z : ◌≡◌ {A = ℕ} 0 1 = cc in omega arith)
+ok_answer x l (Some q) e = absurd (cc)
 
 err_answer : (x : Loaded) (r : Refusal) (o : Option Question) → answer_of x o ≡ Err r → (q : Question) × (o ≡ Some q) × (r ≡ in_file q)
-err_answer x r None e = absurd (let z : ◌≡◌ {A = ℕ} 0 1 = cc in omega arith)
+err_answer x r None e = absurd (cc)
 err_answer x r (Some q) e = (q, refl, cc)
 
 abbrev counted : List ℕ → Loaded
@@ -73,13 +70,13 @@ loaded_rule file nodes types (Err r) nodes' types' bytes call = λ es ns rule is
 
 head_placed : (file : List ℕ) (a b c : Bool) (q : Question) → head_asked a b c ≡ Some q → Placed file q
 head_placed file true true true q e = no_question (sym e)
-head_placed file true true false q e = subst (Placed file) (sym (some_same e)) whole_records
-head_placed file true false c q e = subst (Placed file) (sym (some_same e)) whole_head
-head_placed file false b c q e = subst (Placed file) (sym (some_same e)) whole_length
+head_placed file true true false q e = subst (Placed file) (sym (same_question e)) whole_records
+head_placed file true false c q e = subst (Placed file) (sym (same_question e)) whole_head
+head_placed file false b c q e = subst (Placed file) (sym (same_question e)) whole_length
 
 room_placed : (file : List ℕ) (b : Bool) (q : Question) → cond b None (Some TableRoom) ≡ Some q → Placed file q
 room_placed file true q e = no_question (sym e)
-room_placed file false q e = subst (Placed file) (sym (some_same e)) whole_room
+room_placed file false q e = subst (Placed file) (sym (same_question e)) whole_room
 
 map_take : {X Y : Type 0} (f : X → Y) (k : ℕ) (xs : List X) → map f (take k xs) ≡ take k (map f xs)
 map_take f zero xs = refl
@@ -231,7 +228,7 @@ written_back es ns rule types count bytes bytes' (Err x) is many within room cal
 filled_long : {X : Type 0} (xs : List X) (unused : X) (room : ℕ) → length xs ≤ length (filled xs unused room)
 filled_long xs unused room = simp length-append (omega arith)
 
-pub writes_back_lem : (file : List ℕ) (node_room type_room : ℕ) (r : Result Loaded Refusal) (nodes' : List Node) (types' : List Entry)
+writes_back_lem : (file : List ℕ) (node_room type_room : ℕ) (r : Result Loaded Refusal) (nodes' : List Node) (types' : List Entry)
     → LoadedRule file node_room type_room r nodes' types' → WritesBack file r nodes' types'
 writes_back_lem file node_room type_room (Err x) nodes' types' loaded = tt
 writes_back_lem file node_room type_room (Ok l) nodes' types' loaded = λ bytes bytes' r room call.
@@ -249,6 +246,11 @@ writes_back_lem file node_room type_room (Ok l) nodes' types' loaded = λ bytes 
       back.0 ∙ ap (λ f. Ok (length f)) (sym loaded.3),
       back.1 ∙ ap (λ f. f ++ drop (length f) bytes) (sym loaded.3),
     )
+
+pub loaded_writes_back : (file : List ℕ) (nodes : List Node) (types : List Entry) (r : Result Loaded Refusal) (nodes' : List Node)
+    (types' : List Entry) → Bytes file → LoadCall file nodes types r nodes' types' → WritesBack file r nodes' types'
+loaded_writes_back file nodes types r nodes' types' bytes call =
+    writes_back_lem file _ _ r nodes' types' (loaded_rule file nodes types r nodes' types' bytes call)
 
 pub loads_back_lem : (nodes : List Node) (types : List Entry) (count : ℕ) (bytes : List ℕ) (r : Result ℕ Refusal) (bytes' : List ℕ)
     → WriteCall nodes types count bytes r bytes' → LoadsBack nodes types count r bytes'
@@ -274,7 +276,7 @@ loads_back_lem nodes types count bytes (Ok n) bytes' call = λ nodes₁ nodes₂
     loaded_back : (es : List Entry) (ns : List Node) (rule : Rule es ns) (nodes₁ : List Node) (types₁ : List Entry) (r : Result Loaded Refusal)
         (nodes₂ : List Node) (types₂ : List Entry) → r ≡ Ok (counted (file_of es ns)) → LoadCall (file_of es ns) nodes₁ types₁ r nodes₂ types₂
         → (loaded : Loaded) × (r ≡ Ok loaded) × Holds es ns loaded (length nodes₁) (length types₁) nodes₂ types₂
-    loaded_back es ns rule nodes₁ types₁ (Err x) nodes₂ types₂ ok load = absurd (let z : ◌≡◌ {A = ℕ} 0 1 = cc in omega arith)
+    loaded_back es ns rule nodes₁ types₁ (Err x) nodes₂ types₂ ok load = absurd (cc)
     loaded_back es ns rule nodes₁ types₁ (Ok l) nodes₂ types₂ ok load =
         let six : 6 ≤ length es = rule.given in
         let t : 6 + type_count (file_of es ns) ≡ length es = omega (arith, types_counted es ns rule) in (

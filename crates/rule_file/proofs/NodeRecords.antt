@@ -15,7 +15,7 @@ use Rattle.rule_file.specs.Records.{sort_by_mark, is_node, second_number_lem, ki
 use Rattle.rule_file.specs.Loading.{node_question, node_questions}
 use Rattle.rule_file.proofs.Decode.{node_back, present_node, node_forth, in_range_fits, in_range_present}
 use Rattle.rule_file.proofs.Pieces.{itself, Sixes}
-use Rattle.rule_file.proofs.Questions.{no_question, or_else_none, or_else_some, or_else_parts, or_else_both}
+use Rattle.rule_file.proofs.Questions.{no_question, same_question, or_else_none, or_else_some, or_else_parts, or_else_both}
 
 -- The tests of a node record.
 
@@ -72,9 +72,6 @@ all_yes place false false g s p q r u = absurd (true≢false (sym q))
 fault_further : (types p : ℕ) (six : List ℕ) (ns : List Node) → in_range types (node_of six) ≡ true
     → fault types (suc p) (node_of six ∷ ns) ≡ further (fault types (arity (kind_in six) + p) ns)
 fault_further types p six ns y = ap (λ b. cond b (further (fault types (arity (kind_in six) + p) ns)) (Some 0)) y
-
-some_same : {a b : Question} → Some a ≡ Some b → a ≡ b
-some_same e = cc
 
 -- the nodes of a term pass, and are read back
 pub nodes_forth : (place types p : ℕ) (ns : List Node) → types ≤ 65536 → fault types p ns ≡ None
@@ -187,7 +184,7 @@ pub nodes_refused : (place types p : ℕ) (rs : List (List ℕ)) (q : Question) 
     → NodeStop place types p rs q
 nodes_refused place types zero [] q e = no_question (sym e)
 nodes_refused place types (suc p) [] q e =
-    let w : TermEnded place ≡ q = some_same (sym (unended place types p) ∙ e) in
-    (zero, omega arith, inr (inr (inr (sym w ∙ ap TermEnded (sym (add-zero place)), refl))), inr refl, inl refl)
+    let w : q ≡ TermEnded place = same_question (sym (unended place types p) ∙ e) in
+    (zero, omega arith, inr (inr (inr (w ∙ ap TermEnded (sym (add-zero place)), refl))), inr refl, inl refl)
 nodes_refused place types p (six ∷ rs) q e =
     node_stops place types p six rs q (nodes_refused (place + 1) types (p - 1 + arity (kind_in six)) rs q) (node_question place types p six) refl e

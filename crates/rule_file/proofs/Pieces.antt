@@ -1,20 +1,22 @@
 -- Lists made of pieces of six: written one after the other, and cut again. Assumes nothing.
-use Rattle.std.proofs.Common.{◌≡◌, ℕ, zero, suc, ◌+◌, ◌*◌, ◌<◌, ◌≤◌, List, [], ◌∷◌, ◌++◌, map, length, get_or, take, drop, sym, refl, ap, ◌∙◌, suc-add, zero-add, arith, length-append, take-append-drop}
+use Rattle.std.proofs.Common.{◌≡◌, ℕ, zero, suc, ◌+◌, ◌-◌, ◌*◌, ◌<◌, ◌≤◌, List, [], ◌∷◌, ◌++◌, map, length, get_or, take, drop, sym, refl, ap, ◌∙◌, suc-add, zero-add, arith, length-append, take-append-drop, append-nil}
 use borrow.Rule.Slice.PartMut.{put_mid}
 use Rattle.std.specs.List.{flat_map}
 use Rattle.std.specs.Simd.{first_chunks}
-use Rattle.std.proofs.lemmas.List.{append_assoc, take_more, take_at, drop_at, drop-drop, length-take-le, length-drop, get_or-drop, flat_map_more}
-use Rattle.std.proofs.lemmas.Slice.{drop-append-drop}
+use Rattle.std.proofs.lemmas.List.{append_assoc, take_more, take_at, drop_at, drop_all, take_all, drop-drop, length-take-le, length-drop, get_or-drop, flat_map_more}
 use Rattle.rule_file.specs.Files.{Bytes}
 
 -- a list that begins with p and is otherwise xs, once m is written behind p
-pub put_next : {X : Type 0} (xs p m b1 b2 : List X) (n k : ℕ) → length p ≡ n → length m ≡ k → b1 ≡ p ++ drop n xs
-    → b2 ≡ take n b1 ++ (m ++ drop (n + k) b1) → b2 ≡ (p ++ m) ++ drop (n + k) xs
-put_next xs p m b1 b2 n k l e was wrote =
-    let t : take n b1 ≡ p = ap (take n) was ∙ take_at p (drop n xs) n l in
-    let d : drop (n + k) b1 ≡ drop (n + k) xs =
-    ap (drop (n + k)) was ∙ drop-append-drop n xs p (n + k) (omega arith) l in
-    wrote ∙ ap (λ a. a ++ (m ++ drop (n + k) b1)) t ∙ ap (λ a. p ++ (m ++ a)) d ∙ sym (append_assoc p m (drop (n + k) xs))
+pub put_next : {X : Type 0} (xs p m was part : List X) (n k : ℕ) → length p ≡ n → was ≡ p ++ drop n xs
+    → part ≡ m ++ drop k (take (length was - n) (drop n was)) → put_mid n (length was - n) was part ≡ (p ++ m) ++ drop (n + k) xs
+put_next xs p m was part n k l is wrote =
+    let front : take n was ≡ p = ap (take n) is ∙ take_at p (drop n xs) n l in
+    let past : take (length was - n) (drop n was) ≡ drop n xs =
+    take_all (length was - n) (drop n was) (simp length-drop (omega arith)) ∙ ap (drop n) is ∙ drop_at p (drop n xs) n l in
+    let none : drop (length was - n) (drop n was) ≡ [] = drop_all (length was - n) (drop n was) (simp length-drop (omega arith)) in
+    ap (λ l. take n was ++ (part ++ l)) none ∙ ap (λ l. take n was ++ l) (append-nil part) ∙ ap (λ l. l ++ part) front
+    ∙ ap (λ l. p ++ l) (wrote ∙ ap (λ l. m ++ drop k l) past ∙ ap (λ l. m ++ l) (drop-drop k n xs))
+    ∙ sym (append_assoc p m (drop (n + k) xs))
 
 module _ {X : Type 0} (f : X → List ℕ) (six : (x : X) → length (f x) ≡ 6) where
   pub length_joined : (xs : List X) → length (flat_map f xs) ≡ 6 * length xs
@@ -90,6 +92,14 @@ cut_pieces f six (x ∷ xs) k rest =
     ∙ ap (λ l. l ∷ first_chunks 6 (length xs + k) (drop 6 (f x ++ (flat_map f xs ++ rest)))) (take_at (f x) _ 6 (six x))
     ∙ ap (λ l. f x ∷ first_chunks 6 (length xs + k) l) (drop_at (f x) _ 6 (six x))
     ∙ ap (λ l. f x ∷ l) (cut_pieces f six xs k rest)
+
+-- the chunk at a place
+pub chunk_at : (k p : ℕ) (l d : List ℕ) → p < k → get_or (first_chunks 6 k l) p d ≡ take 6 (drop (6 * p) l)
+chunk_at zero p l d lt = absurd (omega arith)
+chunk_at (suc k) zero l d lt = refl
+chunk_at (suc k) (suc p) l d lt =
+    chunk_at k p (drop 6 l) d (omega arith) ∙ ap (take 6) (drop-drop (6 * p) 6 l)
+    ∙ (let n : 6 + 6 * p ≡ 6 * suc p = omega arith in ap (λ m. take 6 (drop m l)) n)
 
 pub length_chunked : (k : ℕ) (l : List ℕ) → length (first_chunks 6 k l) ≡ k
 length_chunked zero l = refl

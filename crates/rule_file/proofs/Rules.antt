@@ -4,7 +4,8 @@ use native.Mathlib.Nat.{mul-div_right}
 use lib.ListN.{length-map}
 use Rattle.std.specs.List.{flat_map}
 use Rattle.std.specs.Simd.{first_chunks}
-use Rattle.std.proofs.lemmas.List.{append_assoc, append-nil, length-take-le, length-drop, take_at, take_all, drop_at, get_or-take}
+use Rattle.std.proofs.lemmas.List.{append-nil, length-take-le, length-drop, take_at, take_all, drop_at, get_or-take}
+use Rattle.std.proofs.lemmas.List.Concat.{flat_map-append}
 use Rattle.std.proofs.lemmas.Bool.{true≢false, and_parts, and_from, eqb-true, lt-ltb, leb-true, le-leb, eq-eqb}
 use Rattle.calculus.specs.declared.entry.Entry.{Entry}
 use Rattle.calculus.specs.declared.node.Node.{Node}
@@ -18,7 +19,7 @@ use Rattle.calculus.specs.Tables.{given_entries, LaidDown}
 use Rattle.types.proofs.Laid.{laid_given}
 use Rattle.rule_file.specs.Files.{Rule, head_bytes, entry_bytes, node_bytes, file_of, Bytes}
 use Rattle.rule_file.specs.Records.{sort_by_mark, is_head, first_number_lem, second_number_lem, entry_of, node_of}
-use Rattle.rule_file.specs.Loading.{records, type_count, node_count, type_records, node_records, head_fits_lem, head_question, room_question, type_questions, node_questions, load_question, entries_in, nodes_in}
+use Rattle.rule_file.specs.Loading.{records, type_count, node_count, type_records, node_records, head_fits_lem, head_question, SectionsOf, room_question, type_questions, node_questions, load_question, entries_in, nodes_in}
 use Rattle.rule_file.specs.Accepted.{Roomy}
 use Rattle.rule_file.proofs.Marks.{entry_six, node_six}
 use Rattle.rule_file.proofs.Decode.{number_low_high, head_back}
@@ -80,10 +81,6 @@ head_none file h =
 
 -- The sections of a file.
 
-joined_append : {X : Type 0} (f : X → List ℕ) (xs ys : List X) → flat_map f (xs ++ ys) ≡ flat_map f xs ++ flat_map f ys
-joined_append f [] ys = refl
-joined_append f (x ∷ xs) ys = ap (λ l. f x ++ l) (joined_append f xs ys) ∙ sym (append_assoc (f x) (flat_map f xs) (flat_map f ys))
-
 -- the records past the head
 abbrev body : List ℕ → List (List ℕ)
 body file = first_chunks 6 (type_count file + node_count file) (drop 6 file)
@@ -126,9 +123,35 @@ module _ (file : List ℕ) (h : Headed file) where
       ∙ ap (λ l. take 6 file ++ l)
       (sym (cut_join (type_count file + node_count file) (drop 6 file) body_long)
       ∙ ap (flat_map itself) (sym (take-append-drop (type_count file) (body file)))
-      ∙ joined_append itself (take (type_count file) (body file)) (drop (type_count file) (body file))
+      ∙ flat_map-append itself (take (type_count file) (body file)) (drop (type_count file) (body file))
       ∙ ap (λ l. flat_map itself l ++ flat_map itself (drop (type_count file) (body file))) (sym types_are)
       ∙ ap (λ l. flat_map itself (type_records file) ++ flat_map itself l) (sym nodes_are))
+
+-- the two parts of what lies behind the first record are the sections
+pub sections_of : (file : List ℕ) (chunks types nodes : List (List ℕ)) (t : ℕ) → head_question file ≡ None → chunks ≡ records file
+    → t ≡ type_count file → types ≡ take t (take (length chunks - 1) (drop 1 chunks))
+    → nodes ≡ drop t (take (length chunks - 1) (drop 1 chunks)) → SectionsOf file types nodes
+sections_of file chunks types nodes t passed is many_types front back =
+    let h = headed file passed in
+    let behind : take (length chunks - 1) (drop 1 chunks) ≡ body file =
+    take_all (length chunks - 1) (drop 1 chunks) (simp length-drop (omega arith)) ∙ ap (drop 1) (is ∙ records_are file h) in
+    let first : types ≡ type_records file = front ∙ ap (take t) behind ∙ ap (λ n. take n (body file)) many_types ∙ sym (types_are file h) in
+    let second : nodes ≡ node_records file = back ∙ ap (drop t) behind ∙ ap (λ n. drop n (body file)) many_types ∙ sym (nodes_are file h) in
+    let type_total : length types ≡ type_count file = ap length first ∙ length_types file h in
+    let node_total : length nodes ≡ node_count file = ap length second ∙ length_nodes file h in
+    record {
+      head = record {
+        yes_so_far = passed;
+        types_are = type_total;
+        nodes_are = node_total;
+        few_types = omega (arith, h.few_types);
+        some_nodes = omega (arith, h.some_nodes);
+        few_nodes = omega (arith, h.few_nodes);
+        length_is = omega (arith, h.long);
+      };
+      types_are = first;
+      nodes_are = second;
+    }
 
 -- The files of rules pass every question.
 

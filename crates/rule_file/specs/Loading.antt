@@ -1,10 +1,12 @@
 -- The questions of load, in order, and what load answers and leaves.
 --   or_else          the first of two answers
+--   reading          what is read, unless a question is answered no
 --   records          a file cut into records
 --   type_count, node_count   the two counts of the head
 --   type_records, node_records   the records of the two sections
 --   head_question    questions 1 to 3
 --   HeadOf           questions 1 to 3 are answered yes, and the head has these counts
+--   SectionsOf       the same, and these are the two sections
 --   room_question    question 4
 --   type_question    questions 6 to 8 of one type record, after the entries before it
 --   type_questions   the same of each type record, in order
@@ -12,6 +14,7 @@
 --   node_questions   the same of each node record, in order, and question 9 after the last
 --   body_question    the two after each other
 --   load_question    the first question that is answered no
+--   RuleOf           it is none, and these are the type table and the records of the nodes
 --   load_answer      what load answers
 --   entries_in, nodes_in   what the two sections say
 --   LoadCall         what load answers and leaves in its two tables
@@ -34,6 +37,10 @@ use Rattle.rule_file.specs.Records.{sort_by_mark, is_head, is_type, is_node, fir
 abbrev pub or_else : {A : Type 0} → Option A → Option A → Option A
 or_else None later = later
 or_else (Some x) later = Some x
+
+abbrev pub reading : {A : Type 0} → Option Question → A → Result A Question
+reading None x = Ok x
+reading (Some q) x = Err q
 
 abbrev pub records : List ℕ → List (List ℕ)
 records file = first_chunks 6 (length file / 6) file
@@ -71,6 +78,12 @@ pub record HeadOf (file : List ℕ) (types nodes : ℕ) : Type 0 where
   pub some_nodes : 1 ≤ nodes
   pub few_nodes : nodes ≤ 4096
   pub length_is : length file ≡ 6 * (1 + types + nodes)
+
+-- questions 1 to 3 are answered yes, and these are the records of the two sections
+pub record SectionsOf (file : List ℕ) (types nodes : List (List ℕ)) : Type 0 where
+  pub head : HeadOf file (length types) (length nodes)
+  pub types_are : types ≡ type_records file
+  pub nodes_are : nodes ≡ node_records file
 
 -- the type table has room for as many entries more as there are nodes
 abbrev pub room_question : ℕ → ℕ → ℕ → ℕ → Option Question
@@ -118,6 +131,16 @@ entries_in file = given_entries ++ map entry_of (type_records file)
 
 abbrev pub nodes_in : List ℕ → List Node
 nodes_in file = map node_of (node_records file)
+
+-- no question is answered no, and these are the type table and the nodes' records, for which there is room
+pub record RuleOf (file : List ℕ) (node_room type_room : ℕ) (es : List Entry) (nodes : List (List ℕ)) : Type 0 where
+  pub all_yes : load_question file node_room type_room ≡ None
+  pub entries_are : es ≡ entries_in file
+  pub nodes_are : nodes ≡ node_records file
+  pub entry_count : length es ≡ 6 + type_count file
+  pub many_nodes : length nodes ≡ node_count file
+  pub nodes_fit : length nodes ≤ node_room
+  pub entries_fit : length es + length nodes ≤ type_room
 
 abbrev pub in_file : Question → Refusal
 in_file q = record { layer = File; question = q }

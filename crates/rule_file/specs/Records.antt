@@ -1,7 +1,7 @@
 -- Records of a file: six bytes each, a mark of two letters and two numbers of 16 bits, low byte first.
 --   Sort            head, type, node or unreadable
 --   sort_of_mark    what a record is by its mark, and sort_by_mark by its six bytes
---   sort_of, bytes_of, section_sort   the same of the code's records
+--   sort_of, bytes_of                 the same of the code's records
 --   is_head, is_type, is_node         which of them it is
 --   first_number_lem, second_number_lem   the two numbers
 --   form_in, kind_in                  the form or kind of the mark
@@ -17,8 +17,6 @@ use Rattle.calculus.specs.Kinds.{is_mark, kind_of_mark, node}
 use Rattle.calculus.specs.Forms.{form_of_mark, joins, entry}
 use Rattle.rule_file.specs.declared.record.Record.{Record}
 use Rattle.rule_file.specs.declared.record.Record.TheVariants as record_case
-use Rattle.rule_file.specs.declared.record.Section.{Section}
-use Rattle.rule_file.specs.declared.record.Section.TheVariants as section
 
 pub data Sort : Type 0 where
   head : Sort
@@ -83,12 +81,6 @@ bytes_of (record_case.Head six) = six.now
 bytes_of (record_case.«Type» six) = six.now
 bytes_of (record_case.Node six) = six.now
 bytes_of (record_case.Unreadable six) = six.now
-
-abbrev pub section_sort : Section → Sort
-section_sort section.Head = head
-section_sort section.«Type» = type
-section_sort section.Node = node_record
-section_sort section.Unreadable = unreadable
 
 abbrev pub first_number_lem : List ℕ → ℕ
 first_number_lem six = slice_index six 2 + slice_index six 3 * 256

@@ -1,6 +1,6 @@
 // The records of a file, each still a part of it, and what they say.
-ghost use Rattle.std.specs.Prelude.{◌≡◌, ◌+◌, ◌*◌, ◌/◌, ◌≤◌, length, take, drop, IfSome, MatchOption};
-ghost use Rattle.rule_file.specs.Records.{bytes_of, sort_of, sort_by_mark, section_sort, sort_of_mark, first_number_lem, second_number_lem, entry_of, node_of};
+ghost use Rattle.std.specs.Prelude.{◌≡◌, ◌*◌, ◌/◌, ◌≤◌, length, take, drop, IfSome, MatchOption};
+ghost use Rattle.rule_file.specs.Records.{bytes_of, sort_of, sort_by_mark, first_number_lem, second_number_lem, entry_of, node_of};
 
 use calculus::entry::Entry;
 use calculus::form::Form;
@@ -16,44 +16,20 @@ pub enum Record<'a> {
     Unreadable(&'a [u8; 6]),
 }
 
-// What a record is by its mark.
-#[derive(Clone, Copy)]
-enum Section {
-    Head,
-    Type,
-    Node,
-    Unreadable,
-}
-
-fn section_of(a: u8, b: u8) -> Section
-    ensures { section_sort result ≡ sort_of_mark a b }
-{
-    if a == b'R' && b == b'U' {
-        return Section::Head;
-    }
-    match (Form::of_mark(a, b), Kind::of_mark(a, b)) {
-        (Form::Function | Form::Product | Form::Sum, _) => Section::Type,
-        (_, Kind::Blank) => Section::Unreadable,
-        _ => Section::Node,
-    }
-}
-
-fn section_in(six: &[u8; 6]) -> Section
-    ensures { section_sort result ≡ sort_by_mark six.now }
-{
-    section_of(six[0], six[1])
-}
-
 // The record that these six bytes are.
+#[tactic(auto, unfolding(crate::specs::Records::sort_by_mark))]
 pub fn record_of(six: &[u8; 6]) -> Record<'_>
     ensures bytes { bytes_of result ≡ six.now }
     ensures sort { sort_of result ≡ sort_by_mark six.now }
 {
-    match section_in(six) {
-        Section::Head => Record::Head(six),
-        Section::Type => Record::Type(six),
-        Section::Node => Record::Node(six),
-        Section::Unreadable => Record::Unreadable(six),
+    let [a, b, ..] = *six;
+    if a == b'R' && b == b'U' {
+        return Record::Head(six);
+    }
+    match (Form::of_mark(a, b), Kind::of_mark(a, b)) {
+        (Form::Function | Form::Product | Form::Sum, _) => Record::Type(six),
+        (_, Kind::Blank) => Record::Unreadable(six),
+        _ => Record::Node(six),
     }
 }
 
@@ -61,10 +37,8 @@ pub fn record_of(six: &[u8; 6]) -> Record<'_>
 pub fn six_at(file: &[u8], place: usize) -> Option<&[u8; 6]>
     ensures bytes { MatchOption result (length file.now / 6 ≤ place) (λ six. six.now ≡ take 6 (drop (6 * place) file.now)) }
 {
-    if place >= file.len() / 6 {
-        return None;
-    }
-    file[6 * place..].first_chunk::<6>()
+    let (records, _) = file.as_chunks::<6>();
+    records.get(place)
 }
 
 // The record at a place of the file, or none past its last whole record.
@@ -72,10 +46,7 @@ pub fn record_at(file: &[u8], place: usize) -> Option<Record<'_>>
     ensures bytes { MatchOption result (length file.now / 6 ≤ place) (λ x. bytes_of x ≡ take 6 (drop (6 * place) file.now)) }
     ensures sort { IfSome result (λ x. sort_of x ≡ sort_by_mark (take 6 (drop (6 * place) file.now))) }
 {
-    let Some(six) = six_at(file, place) else {
-        return None;
-    };
-    Some(record_of(six))
+    six_at(file, place).map(record_of)
 }
 
 // The first of a record's two numbers, low byte first.
@@ -85,7 +56,8 @@ pub fn first_number(six: &[u8; 6]) -> u16
     u16::from_le_bytes([six[2], six[3]])
 }
 
-// The second of a record's two numbers, low byte first.
+// The second of a record's two numbers, low byte first. Two functions, each named for its number: one that takes the place
+// would be no shorter, and its callers would say the place.
 pub fn second_number(six: &[u8; 6]) -> u16
     ensures value { result ≡ second_number_lem six.now }
 {
@@ -111,6 +83,7 @@ pub fn head_of(six: &[u8; 6]) -> Head
 }
 
 // The entry that a type record says; its form is blank where the mark is not one of a type.
+#[tactic(auto, unfolding(crate::specs::Records::form_in))]
 pub fn entry_of(six: &[u8; 6]) -> Entry
     ensures value { result ≡ entry_of six.now }
 {
@@ -122,6 +95,7 @@ pub fn entry_of(six: &[u8; 6]) -> Entry
 }
 
 // The node that a node record says; its kind is blank where the mark is not one of a node.
+#[tactic(auto, unfolding(crate::specs::Records::kind_in))]
 pub fn node_of(six: &[u8; 6]) -> Node
     ensures value { result ≡ node_of six.now }
 {

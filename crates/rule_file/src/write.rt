@@ -1,17 +1,19 @@
 // Writing: from a node table and a type table to the bytes of a file.
-ghost use Rattle.std.specs.Prelude.{◌≡◌, ℕ, ◌+◌, ◌*◌, ◌≤◌, List, ◌∷◌, ◌++◌, length, take, drop, MatchOption, slice_index};
+ghost use Rattle.std.specs.Prelude.{◌≡◌, ℕ, ◌*◌, ◌≤◌, List, ◌∷◌, ◌++◌, length, take, drop, MatchResult, IfOk, slice_index};
 ghost use Rattle.std.specs.List.{flat_map};
 ghost use Rattle.rule_file.specs.Files.{low_high, head_bytes, entry_bytes, node_bytes, file_of};
 ghost use Rattle.rule_file.specs.Accepted.{LoadsBack};
 ghost use Rattle.rule_file.specs.Writing.{file_length, Writable, Unwritable, WriteCall};
 ghost use Rattle.std.proofs.Common.{rules};
 
-use crate::load::refused;
 use crate::record::Head;
 use calculus::entry::Entry;
 use calculus::node::Node;
-use refusals::{Question, Refusal};
-use types::table::counts_fit;
+use refusals::{Layer, Question, Refusal};
+use types::table::{GIVEN, counts_fit};
+
+// How many bytes a record has.
+const RECORD: usize = 6;
 
 // What is written as one record of six bytes.
 pub trait Encode {
@@ -47,6 +49,7 @@ impl Encode for Entry {
 
     ghost six = { Prim.search rules };
 
+    #[tactic(auto, using(crate::proofs::Marks::form_items))]
     fn encode(&self) -> [u8; 6] {
         six(self.form.mark(), self.left, self.right)
     }
@@ -57,28 +60,10 @@ impl Encode for Node {
 
     ghost six = { Prim.search rules };
 
+    #[tactic(auto, using(crate::proofs::Marks::kind_items))]
     fn encode(&self) -> [u8; 6] {
         six(self.kind.mark(), self.number, 0)
     }
-}
-
-// Questions 10, 12, 13 and 14.
-fn write_fault(nodes: &[Node], types: &[Entry], count: usize, room: usize) -> Option<Question>
-    ensures value { MatchOption result (Writable nodes.now types.now count room) (λ q. Unwritable nodes.now types.now count room q) }
-{
-    if !counts_fit(nodes.len(), types.len(), count) {
-        return Some(Question::Counts);
-    }
-    if let Some(k) = types::table::first_fault(&types[0..count]) {
-        return Some(Question::EntryLaid { place: k as u16 });
-    }
-    if let Some(k) = terms::first_fault(nodes, count) {
-        return Some(Question::OneTerm { place: k as u16 });
-    }
-    if room < 6 * (1 + (count - 6) + nodes.len()) {
-        return Some(Question::ByteRoom);
-    }
-    None
 }
 
 // Writes the records to the front of the byte list, one after the other.
@@ -86,51 +71,74 @@ fn put_records<R: Encode>(records: &[R], bytes: &mut [u8])
     requires { 6 * length records.now ≤ length bytes.old }
     ensures after { bytes.new ≡ flat_map R.encoded records.now ++ drop (6 * length records.now) bytes.old }
 {
+    // The place is counted: std says nothing of what the bytes are after as_chunks_mut, or after a zip over iter_mut.
     for (i, x) in records.iter().enumerate() {
         let record = x.encode();
-        let at = 6 * i;
-        let end = at + 6;
-        bytes[at..end].copy_from_slice(&record);
+        let at = RECORD * i;
+        bytes[at..at + RECORD].copy_from_slice(&record);
     }
 }
 
-// Writes the records to the byte list from the byte `at` on.
-fn put_records_at<R: Encode>(records: &[R], bytes: &mut [u8], at: usize)
-    requires { at + 6 * length records.now ≤ length bytes.old }
-    ensures after { bytes.new ≡ take at bytes.old ++ (flat_map R.encoded records.now ++ drop (at + 6 * length records.now) bytes.old) }
-{
-    put_records(records, &mut bytes[at..]);
+// The tables of a rule that may be written: its type table, and the nodes, which are one term over it.
+#[derive(Clone, Copy)]
+struct Tables<'a> {
+    entries: &'a [Entry],
+    nodes: &'a [Node],
+    ghost given: { 6 ≤ length entries.now },
+    ghost few_entries: { length entries.now ≤ 1030 },
+    ghost few_nodes: { length nodes.now ≤ 4096 },
 }
 
-// The bytes of a file of these tables, written to the front of the byte list.
-fn put_file(nodes: &[Node], types: &[Entry], count: usize, bytes: &mut [u8])
-    requires { Writable nodes.now types.now count (length bytes.old) }
-    ensures after { bytes.new ≡ file_of (take count types.now) nodes.now ++ drop (file_length count (length nodes.now)) bytes.old }
-{
-    let written = count - 6;
-    let head = Head {
-        types: written as u16,
-        nodes: nodes.len() as u16,
-    };
-    put_records(&[head], bytes);
-    put_records_at(&types[6..count], bytes, 6);
-    put_records_at(nodes, bytes, 6 + 6 * written);
-}
-
-// The questions of write and what it leaves.
-fn write_tables(
-    nodes: &[Node],
-    types: &[Entry],
-    count: usize,
-    bytes: &mut [u8],
-) -> Result<usize, Refusal>
-    ensures call { WriteCall nodes.now types.now count bytes.old result bytes.new }
-{
-    if let Some(question) = write_fault(nodes, types, count, bytes.len()) {
-        return Err(refused(question));
+impl<'a> Tables<'a> {
+    // The nodes and the first `count` entries: questions 10, 12, 13 and 14.
+    fn read(
+        nodes: &'a [Node],
+        types: &'a [Entry],
+        count: usize,
+        room: usize,
+    ) -> Result<Self, Question>
+        ensures writable { MatchResult result (λ _. Writable nodes.now types.now count room) (λ q. Unwritable nodes.now types.now count room q) }
+        ensures entries { IfOk result (λ t. t.entries.now ≡ take count types.now) }
+        ensures nodes { IfOk result (λ t. t.nodes.now ≡ nodes.now) }
+    {
+        if !counts_fit(nodes.len(), types.len(), count) {
+            return Err(Question::Counts);
+        }
+        let entries = &types[..count];
+        if let Some(k) = types::table::first_fault(entries) {
+            return Err(Question::EntryLaid { place: k as u16 });
+        }
+        if let Some(k) = terms::first_fault(nodes, count) {
+            return Err(Question::OneTerm { place: k as u16 });
+        }
+        let tables = Tables { entries, nodes };
+        if room < tables.file_length() {
+            return Err(Question::ByteRoom);
+        }
+        Ok(tables)
     }
-    put_file(nodes, types, count, bytes);
-    Ok(6 * (1 + (count - 6) + nodes.len()))
+
+    // How many bytes the file of these tables has.
+    fn file_length(&self) -> usize
+        ensures { result ≡ file_length (length self.now.entries.now) (length self.now.nodes.now) }
+    {
+        RECORD * (1 + (self.entries.len() - GIVEN.len()) + self.nodes.len())
+    }
+
+    // Writes the file of these tables to the front of the byte list.
+    fn put(&self, bytes: &mut [u8])
+        requires { file_length (length self.now.entries.now) (length self.now.nodes.now) ≤ length bytes.old }
+        ensures { bytes.new ≡ file_of self.now.entries.now self.now.nodes.now ++ drop (file_length (length self.now.entries.now) (length self.now.nodes.now)) bytes.old }
+    {
+        let added = &self.entries[GIVEN.len()..];
+        let head = Head {
+            types: added.len() as u16,
+            nodes: self.nodes.len() as u16,
+        };
+        put_records(&[head], bytes);
+        put_records(added, &mut bytes[RECORD..]);
+        put_records(self.nodes, &mut bytes[RECORD * (1 + added.len())..]);
+    }
 }
 
 // Writes a rule file: the nodes, all of them the rule, and the first `count` entries of the type table. It puts questions
@@ -145,5 +153,9 @@ pub fn write(
     ensures call { WriteCall nodes.now types.now count bytes.old result bytes.new }
     ensures loads_back { LoadsBack nodes.now types.now count result bytes.new }
 {
-    write_tables(nodes, types, count, bytes)
+    let tables = Tables::read(nodes, types, count, bytes.len()).map_err(
+        |question| Layer::File.refuse(question),
+    )?;
+    tables.put(bytes);
+    Ok(tables.file_length())
 }

@@ -1,16 +1,29 @@
-use Rattle.std.proofs.Common.{arith}
+use Rattle.std.proofs.Common.{length, Ok, arith, rules}
 use Rattle.rule_file.specs.Files.{Bytes}
-use Rattle.rule_file.proofs.Meaning.{loaded_rule, refused_at, writes_back_lem}
+use Rattle.rule_file.specs.Loading.{LoadCall}
+use Rattle.rule_file.proofs.Meaning.{loaded_rule, refused_at, loaded_writes_back}
 use Rattle.rule_file.proofs.load.load.Goals as goal
+
+pub returns-in_err-rule : goal.returns-in_err-rule
+returns-in_err-rule c =
+    let bytes : Bytes c.args.file.now = λ i. omega (arith, c.type_inv.file i) in
+    let call : LoadCall c.args.file.now c.args.nodes.now c.args.types.now c.from_residual.result c.args.nodes.now c.args.types.now = search rules in
+    record {
+      call = call;
+      rule = loaded_rule _ _ _ _ _ _ bytes call;
+      place = refused_at _ _ _ _ _ _ call;
+      writes_back = loaded_writes_back _ _ _ _ _ _ bytes call;
+    }
 
 pub returns : goal.returns
 returns c =
-    let call = c.load_tables.ensures.call in
     let bytes : Bytes c.args.file.now = λ i. omega (arith, c.type_inv.file i) in
-    let rule = loaded_rule _ _ _ _ _ _ bytes call in
+    let call : LoadCall c.args.file.now c.args.nodes.now c.args.types.now
+    (Ok (record { nodes = length c.in_ok-rule.rule.nodes.now; count = length c.entries.result.now }))
+    c.lay_nodes.new.nodes c.lay_entries.new.types = search rules in
     record {
       call = call;
-      rule = rule;
+      rule = loaded_rule _ _ _ _ _ _ bytes call;
       place = refused_at _ _ _ _ _ _ call;
-      writes_back = writes_back_lem _ _ _ _ _ _ rule;
+      writes_back = loaded_writes_back _ _ _ _ _ _ bytes call;
     }

@@ -1,7 +1,5 @@
-use Rattle.std.proofs.Common.{◌≡◌, ◌*◌, ◌++◌, length, drop, ap, ◌∙◌, arith, rules}
+use Rattle.std.proofs.Common.{ap, ◌∙◌, arith, rules}
 use borrow.Rule.Slice.PartMut.{put_mid}
-use Rattle.std.specs.List.{flat_map}
-use Rattle.std.proofs.lemmas.List.{take_all}
 use Rattle.std.proofs.lemmas.Slice.{overwrites}
 use Rattle.rule_file.proofs.Pieces.{put_piece}
 use Rattle.rule_file.proofs.write.put_records.Goals as goal
@@ -14,12 +12,3 @@ loop-i-preserved g c =
           ∙ put_piece g.R.Encode.encoded g.met.R.Encode.six _ _ c.index-records-i.result _ _ _ c.loop-i-test.true
           c.index-records-i.is (omega arith) c.loop-i.invariant.1,
     )
-
-pub returns : goal.returns
-returns g c =
-    let at : c.loop-i.i ≡ length c.args.records.now = omega arith in
-    record {
-      after = c.loop-i.invariant.1
-          ∙ ap (λ l. flat_map g.R.Encode.encoded l ++ drop (6 * c.loop-i.i) c.args.bytes.now) (take_all _ _ c.loop-i-test.false)
-          ∙ ap (λ n. flat_map g.R.Encode.encoded c.args.records.now ++ drop (6 * n) c.args.bytes.now) at;
-    }

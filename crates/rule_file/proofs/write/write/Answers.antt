@@ -1,5 +1,7 @@
+use Rattle.std.proofs.Common.{Ok, rules}
 use Rattle.rule_file.proofs.Meaning.{loads_back_lem}
 use Rattle.rule_file.proofs.write.write.Goals as goal
 
-pub returns : goal.returns
-returns c = record { call = c.write_tables.ensures.call; loads_back = loads_back_lem _ _ _ _ _ _ c.write_tables.ensures.call }
+pub returns-clause-loads_back : goal.returns-clause-loads_back
+returns-clause-loads_back c =
+    loads_back_lem c.args.nodes.now c.args.types.now c.args.count c.args.bytes.now (Ok c.file_length.result) c.put.new.bytes (search rules)
