@@ -8,10 +8,10 @@ const ROUNDS: u32 = 9;
 // The time of so many calls, each of which must succeed.
 fn time_of<F: FnMut() -> bool>(
     rt: &HostRuntime,
-    mut call: F,
+    call: &mut F,
     calls: u32,
 ) -> anyhow::Result<Duration>
-    requires { F.IsAlwaysCallable call }
+    requires { (state : F) → F.pre state }
 {
     let start = Instant::now(rt)?;
     for _ in 0..calls {
@@ -23,12 +23,12 @@ fn time_of<F: FnMut() -> bool>(
 }
 
 // So many calls that they take at least 20 milliseconds.
-fn calls_to_measure<F: FnMut() -> bool>(rt: &HostRuntime, mut call: F) -> anyhow::Result<u32>
-    requires { F.IsAlwaysCallable call }
+fn calls_to_measure<F: FnMut() -> bool>(rt: &HostRuntime, call: &mut F) -> anyhow::Result<u32>
+    requires { (state : F) → F.pre state }
 {
     let mut calls = 1;
     for _ in 0..24 {
-        if time_of(rt, &mut call, calls)?.as_millis() >= 20 {
+        if time_of(rt, call, calls)?.as_millis() >= 20 {
             break;
         }
         calls = calls.saturating_mul(2);
@@ -38,7 +38,7 @@ fn calls_to_measure<F: FnMut() -> bool>(rt: &HostRuntime, mut call: F) -> anyhow
 
 // How many microseconds a call takes, in the shortest of the measurements.
 pub fn microseconds<F: FnMut() -> bool>(rt: &HostRuntime, mut call: F) -> anyhow::Result<f64>
-    requires { F.IsAlwaysCallable call }
+    requires { (state : F) → F.pre state }
 {
     let calls = calls_to_measure(rt, &mut call)?;
     let mut best = time_of(rt, &mut call, calls)?;
