@@ -7,7 +7,7 @@ mod workload;
 use anyhow::anyhow;
 use measure::microseconds;
 use std::env;
-use workload::{Call, Workload};
+use workload::Workload;
 
 // The number of type records and of nodes of each file; a pair differs in one of them. The last is the largest file.
 const PAIRS: [[(u16, u16); 2]; 3] = [
@@ -28,8 +28,8 @@ struct Times {
 // Measures the calls on a file of this size, and prints a line of the table.
 fn print_times(rt: &HostRuntime, (types, nodes): (u16, u16)) -> anyhow::Result<Times> {
     let mut workload = Workload::new(rt.alloc(), types, nodes)?;
-    let load = microseconds(rt, &mut workload, Call::Load)?;
-    let write = microseconds(rt, &mut workload, Call::Write)?;
+    let load = microseconds(rt, || workload.load())?;
+    let write = microseconds(rt, || workload.write())?;
     let bytes = workload.file.len();
     println!(rt; "{types:>5} {nodes:>5} {bytes:>5} {load:>9.2} {write:>9.2}")?;
     Ok(Times { load, write })
@@ -52,7 +52,7 @@ fn measure_all(rt: &HostRuntime) -> anyhow::Result<()> {
     let times = print_times(rt, LARGEST)?;
     let (types, nodes) = LARGEST;
     let mut workload = Workload::new(rt.alloc(), types, nodes)?;
-    let copy = microseconds(rt, &mut workload, Call::Copy)?;
+    let copy = microseconds(rt, || workload.copy())?;
     let ratio = times.load / copy;
     println!(rt; "copy of the largest file {copy:.2} us, load / copy {ratio:.2}")?;
     Ok(())

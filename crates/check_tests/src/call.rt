@@ -1,55 +1,48 @@
 // A call of check in memory full of noise, held to what it must say and leave.
 use crate::case::Due;
-use crate::words::{entries_of, records};
 use calculus::entry::Entry;
 use calculus::form::Form;
 use calculus::node::Node;
 use checker::check::check;
 use hosts::host::Host;
+use record_text::record::all_of;
+use record_text::text::{Rising, TextError, records};
 use refusals::Report;
 use std::alloc::{AllocError, Global};
 
-// What stands past the entries of a type table before a call.
-const ENTRY_NOISE: [Entry; 2] = [
-    Entry {
-        form: Form::Product,
-        left: 9,
-        right: 9,
-    },
-    Entry {
-        form: Form::Function,
-        left: 0,
-        right: 0,
-    },
-];
+// What stands past the entries of a type table before a call: one entry, and then others.
+const FIRST_NOISE: Entry = Entry {
+    form: Form::Product,
+    left: 9,
+    right: 9,
+};
+
+const OTHER_NOISE: Entry = Entry {
+    form: Form::Function,
+    left: 0,
+    right: 0,
+};
 
 // What stands in a scratch list before a call.
 const WORD_NOISE: u32 = 0xffff_ffff;
 
+fn entries_of(heap: Global, text: &str) -> Result<Vec<Entry>, TextError> {
+    all_of(heap, &records(heap, text, Rising::Second)?)
+}
+
 // What is lent to a call.
-#[derive(PartialEq, Eq, Drop)]
+#[derive(Clone, PartialEq, Eq, Drop)]
 pub struct Memory {
     types: Vec<Entry>,
     scratch: Vec<u32>,
 }
 
-// What a call said.
-#[derive(Clone, Copy, PartialEq, Eq)]
-pub enum Answer {
-    // the type and the count
-    Type(u16, usize),
-    No(Report),
-    // an acceptance of other nodes or of another profile
-    Other,
-}
-
 impl Memory {
     // A type table of these entries, cut off or filled up with noise to its length, and a scratch list of noise.
     pub fn noisy(heap: Global, types: &str, table: usize, words: usize) -> anyhow::Result<Memory> {
-        let [first, other] = ENTRY_NOISE;
-        let mut types = entries_of(heap, &records(heap, types)?)?;
-        types.push(first)?;
-        types.resize(table, other)?;
+        let mut types = entries_of(heap, types)?;
+        types.push(FIRST_NOISE)?;
+        types.resize(table, OTHER_NOISE)?;
         Ok(Memory {
             types,
             scratch: vec![in heap; WORD_NOISE; words]?,
@@ -57,73 +50,70 @@ impl Memory {
     }
 
     // The type table up to the count, then what is added and blanks, and zeros as the scratch list.
-    fn cleared(heap: Global, before: &Memory, count: usize, added: &str) -> anyhow::Result<Memory> {
-        let mut types = before.types.clone()?;
+    fn cleared(&self, heap: Global, count: usize, added: &[Entry]) -> Result<Memory, AllocError> {
+        let mut types = self.types.clone()?;
         types.truncate(count);
-        types.extend_from_slice(&entries_of(heap, &records(heap, added)?)?)?;
-        types.resize(before.types.len(), Entry::BLANK)?;
+        types.extend_from_slice(added)?;
+        types.resize(self.types.len(), Entry::BLANK)?;
         Ok(Memory {
             types,
-            scratch: vec![in heap; 0; before.scratch.len()]?,
+            scratch: vec![in heap; 0; self.scratch.len()]?,
         })
-    }
-
-    fn copied(&self) -> Result<Memory, AllocError> {
-        Ok(Memory {
-            types: self.types.clone()?,
-            scratch: self.scratch.clone()?,
-        })
-    }
-
-    // What a call must leave.
-    fn after(&self, heap: Global, count: usize, due: Due) -> anyhow::Result<Memory> {
-        match due {
-            Due::Type(_, added) => Memory::cleared(heap, self, count, added),
-            Due::No(20..=24, _, _) => Memory::cleared(heap, self, count, ""),
-            Due::No(_, _, _) => Ok(self.copied()?),
-        }
     }
 }
 
-impl Answer {
-    // What a call must say.
-    fn of(heap: Global, count: usize, due: Due) -> anyhow::Result<Answer> {
-        Ok(match due {
-            Due::Type(number, added) => {
-                Answer::Type(number, count.saturating_add(records(heap, added)?.len()))
+// A rule, how many entries the type table has before, and what is due.
+#[derive(Clone, Copy)]
+pub struct Trial<'a> {
+    pub nodes: &'a [Node],
+    pub count: usize,
+    pub due: Due,
+}
+
+impl Trial<'_> {
+    // What a call that adds these entries must leave.
+    fn after(&self, heap: Global, before: &Memory, added: &[Entry]) -> Result<Memory, AllocError> {
+        match self.due {
+            Due::Type(..) | Due::No(20..=24, _, _) => before.cleared(heap, self.count, added),
+            Due::No(..) => before.clone(),
+        }
+    }
+
+    // Whether a call in this memory, under this host, says and leaves what is due.
+    pub fn holds<H: Host>(
+        &self,
+        heap: Global,
+        mut memory: Memory,
+        host: &mut H,
+    ) -> anyhow::Result<bool> {
+        let added = entries_of(heap, self.due.added())?;
+        let after = self.after(heap, &memory, &added)?;
+        let profile = host.profile();
+        let said = check(
+            self.nodes,
+            &mut memory.types,
+            self.count,
+            &mut memory.scratch,
+            host,
+        );
+        let as_said = match (said, self.due) {
+            (Ok(accepted), Due::Type(number, _)) => {
+                accepted.profile() == profile
+                    && accepted.nodes() == self.nodes
+                    && accepted.type_number() == number
+                    && accepted.count() == self.count.saturating_add(added.len())
             }
-            Due::No(number, place, child) => Answer::No(Report {
-                layer: 2,
-                number,
-                place,
-                child,
-            }),
-        })
+            (Err(refusal), Due::No(number, place, child)) => {
+                let due = Report {
+                    layer: 2,
+                    number,
+                    place,
+                    child,
+                };
+                refusal.report() == due
+            }
+            _ => false,
+        };
+        Ok(as_said && memory == after)
     }
-}
-
-// Makes the call, and says what it says.
-fn ask<H: Host>(nodes: &[Node], memory: &mut Memory, count: usize, host: &mut H) -> Answer {
-    let profile = host.profile();
-    match check(nodes, &mut memory.types, count, &mut memory.scratch, host) {
-        Ok(a) if a.profile() == profile && a.nodes() == nodes => {
-            Answer::Type(a.type_number(), a.count())
-        }
-        Ok(_) => Answer::Other,
-        Err(refusal) => Answer::No(refusal.report()),
-    }
-}
-
-// Whether a call says and leaves what is due.
-pub fn is_due<H: Host>(
-    heap: Global,
-    nodes: &[Node],
-    mut memory: Memory,
-    count: usize,
-    host: &mut H,
-    due: Due,
-) -> anyhow::Result<bool> {
-    let after = memory.after(heap, count, due)?;
-    let said = ask(nodes, &mut memory, count, host);
-    Ok(said == Answer::of(heap, count, due)? && memory == after)
 }

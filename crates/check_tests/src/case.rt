@@ -1,13 +1,24 @@
 // What a case is: a rule, and what check must say of it.
 use std::fmt;
 
-// What check must say.
+// What check must say. It is no Result, since it stands in each line of the tables, where `Err(No(..))` says no more; the refusal
+// is in numbers, since these are what is tested.
 #[derive(Clone, Copy)]
 pub enum Due {
     // The number of the rule's type, and the entries that are added to the table.
     Type(u16, &'static str),
     // The number, the place and the child of the refusal.
     No(u8, u16, u8),
+}
+
+impl Due {
+    // The entries that are added to the table.
+    pub fn added(&self) -> &'static str {
+        match self {
+            Due::Type(_, added) => added,
+            Due::No(..) => "",
+        }
+    }
 }
 
 // A rule, and what is due.
@@ -24,7 +35,7 @@ pub struct Group {
 }
 
 // A call at an edge: a rule, the entries of the type table, their count, how long the type table and the scratch list are, and
-// what is due.
+// what is due. The fields have no names, so that an edge is a line of its table.
 #[derive(Clone, Copy)]
 pub struct Edge(
     pub &'static str,

@@ -7,61 +7,73 @@ mod case;
 mod deep;
 mod edges;
 mod refused;
-mod words;
 
 use accepted::ACCEPTED;
-use anyhow::anyhow;
-use call::{Memory, is_due};
+use anyhow::Context;
+use calculus::node::Node;
+use call::{Memory, Trial};
 use case::{Case, Edge, Group};
 use deep::DEEP;
 use edges::EDGES;
 use hosts::listing::Listing;
 use hosts::sheet::Sheet;
+use record_text::record::all_of;
+use record_text::text::{Rising, TextError, records};
 use refused::REFUSED;
 use std::alloc::Global;
-use words::{nodes_of, records};
 
 // The profile of a listing.
 const LISTING: u32 = 0x4231;
+
+fn nodes_of(heap: Global, rule: &str) -> Result<Vec<Node>, TextError> {
+    all_of(heap, &records(heap, rule, Rising::Second)?)
+}
 
 // Whether check says and leaves what is due: under a sheet, in tables just long enough and in longer ones, and under a listing
 // where the profile is a listing's.
 fn group_case(heap: Global, group: &Group, case: &Case) -> anyhow::Result<bool> {
     let Case(rule, due) = *case;
-    let nodes = nodes_of(heap, &records(heap, rule)?)?;
+    let nodes = nodes_of(heap, rule)?;
     let types = format!(in heap; "given {}", group.types)?;
-    let count = records(heap, &types)?.len();
+    let count = records(heap, &types, Rising::Second)?.len();
     let table = count.saturating_add(nodes.len());
     let words = nodes.len().saturating_mul(4);
+    let trial = Trial {
+        nodes: &nodes,
+        count,
+        due,
+    };
     let mut sheet = Sheet::empty();
-    if sheet.make(group.profile, &[]).is_err() {
-        return Err(anyhow!("no sheet has this profile"));
-    }
+    sheet
+        .make(group.profile, &[])
+        .ok()
+        .context("no sheet has this profile")?;
     let exact = Memory::noisy(heap, &types, table, words)?;
+    let again = exact.clone()?;
     let longer = Memory::noisy(
         heap,
         &types,
         table.saturating_add(9),
         words.saturating_add(7),
     )?;
-    if !is_due(heap, &nodes, exact, count, &mut sheet, due)?
-        || !is_due(heap, &nodes, longer, count, &mut sheet, due)?
-    {
-        return Ok(false);
-    }
-    if group.profile != LISTING {
-        return Ok(true);
-    }
-    let again = Memory::noisy(heap, &types, table, words)?;
-    is_due(heap, &nodes, again, count, &mut Listing::empty(), due)
+    let under_sheet = trial.holds(heap, exact, &mut sheet)?
+        && trial.holds(heap, longer, &mut sheet)?;
+    let under_listing = group.profile != LISTING
+        || trial.holds(heap, again, &mut Listing::empty())?;
+    Ok(under_sheet && under_listing)
 }
 
 // Whether a call at an edge says and leaves what is due.
 fn edge_case(heap: Global, edge: &Edge) -> anyhow::Result<bool> {
     let Edge(rule, types, count, table, words, due) = *edge;
-    let nodes = nodes_of(heap, &records(heap, rule)?)?;
+    let nodes = nodes_of(heap, rule)?;
     let memory = Memory::noisy(heap, types, table, words)?;
-    is_due(heap, &nodes, memory, count, &mut Listing::empty(), due)
+    let trial = Trial {
+        nodes: &nodes,
+        count,
+        due,
+    };
+    trial.holds(heap, memory, &mut Listing::empty())
 }
 
 fn word(as_due: bool) -> &'static str {

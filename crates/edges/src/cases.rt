@@ -1,7 +1,8 @@
 // What a case is: a call and what it is given.
 use std::fmt;
 
-// A call and what it is given. Files, nodes and types are texts of words.
+// A call and what it is given. Files, nodes and types are texts of words. A case stands in a static table and is printed too,
+// so it is an enum and no closure.
 #[derive(Clone, Copy)]
 pub enum Case {
     // Load a file, with more than enough room.

@@ -6,7 +6,6 @@ mod cases;
 mod load_edges;
 mod outcome;
 mod tables;
-mod words;
 mod write_edges;
 
 use calls::{load_first, round_trip, write_into};
@@ -14,17 +13,23 @@ use cases::{Case, Edge};
 use load_edges::LOAD_EDGES;
 use outcome::Outcome;
 use std::alloc::Global;
+use tables::Room;
 use write_edges::WRITE_EDGES;
 
-// A table of so many places has room for every file.
-const ROOM: usize = 6000;
+// Room for every file.
+const ROOM: Room = Room {
+    nodes: 6000,
+    types: 6000,
+};
 
-fn outcome_of(heap: Global, case: &Case) -> anyhow::Result<Outcome> {
+fn outcome_of(heap: Global, case: Case) -> anyhow::Result<Outcome> {
     match case {
-        Case::Load(file) => load_first(heap, file, usize::MAX, ROOM, ROOM),
-        Case::LoadFirst(length, file) => load_first(heap, file, *length, ROOM, ROOM),
-        Case::LoadInto(nodes, types, file) => load_first(heap, file, usize::MAX, *nodes, *types),
-        Case::Write(nodes, types, count, room) => write_into(heap, nodes, types, *count, *room),
+        Case::Load(file) => load_first(heap, file, usize::MAX, ROOM),
+        Case::LoadFirst(length, file) => load_first(heap, file, length, ROOM),
+        Case::LoadInto(nodes, types, file) => {
+            load_first(heap, file, usize::MAX, Room { nodes, types })
+        }
+        Case::Write(nodes, types, count, room) => write_into(heap, nodes, types, count, room),
         Case::RoundTrip(file) => round_trip(heap, file),
     }
 }
@@ -32,7 +37,7 @@ fn outcome_of(heap: Global, case: &Case) -> anyhow::Result<Outcome> {
 fn print_edge(rt: &HostRuntime, edge: &Edge) -> anyhow::Result<()> {
     rt.println(edge.title)?;
     for case in edge.cases {
-        let outcome = outcome_of(rt.alloc(), case)?;
+        let outcome = outcome_of(rt.alloc(), *case)?;
         println!(rt; "{case}: {outcome}")?;
     }
     Ok(())

@@ -9,12 +9,12 @@ pub enum Answer {
     Wrote(usize),
     // A round trip of so many bytes.
     CameBack(usize),
-    Refused(Refusal),
 }
 
 #[derive(Clone, Copy)]
 pub struct Outcome {
-    pub answer: Answer,
+    pub answer: Result<Answer, Refusal>,
+    // Both an answer and a refusal are printed, whether this holds or not, so it is no case of a Result.
     pub as_due: bool,
 }
 
@@ -24,14 +24,6 @@ impl fmt::Display for Answer {
             Answer::Loaded(loaded) => write!(f, "loaded {} {}", loaded.nodes, loaded.count),
             Answer::Wrote(length) => write!(f, "wrote {length}"),
             Answer::CameBack(length) => write!(f, "came back {length}"),
-            Answer::Refused(refusal) => {
-                let r = refusal.report();
-                write!(
-                    f,
-                    "refused {} {} {} {}",
-                    r.layer, r.number, r.place, r.child
-                )
-            }
         }
     }
 }
@@ -40,10 +32,20 @@ impl fmt::Display for Outcome {
     fn fmt<W: fmt::Write>(&self, f: &mut fmt::Formatter<W>) -> fmt::Result {
         let left = match self.answer {
             _ if !self.as_due => "WRONG",
-            Answer::Refused(_) => "untouched",
-            Answer::Loaded(_) | Answer::Wrote(_) => "filled",
-            Answer::CameBack(_) => "equal",
+            Ok(Answer::Loaded(_) | Answer::Wrote(_)) => "filled",
+            Ok(Answer::CameBack(_)) => "equal",
+            Err(_) => "untouched",
         };
-        write!(f, "{}, {left}", self.answer)
+        match self.answer {
+            Ok(answer) => write!(f, "{answer}, {left}"),
+            Err(refusal) => {
+                let r = refusal.report();
+                write!(
+                    f,
+                    "refused {} {} {} {}, {left}",
+                    r.layer, r.number, r.place, r.child
+                )
+            }
+        }
     }
 }

@@ -6,7 +6,6 @@ mod tests {
     use calculus::answer::Answer;
     use calculus::kind::Kind;
     use calculus::node::Node;
-    use refusals::Refusal;
     use hosts::host::Host;
     use hosts::line::Line;
     use hosts::listing::Listing;
@@ -29,27 +28,26 @@ mod tests {
         listing.query(question, number)
     }
 
-    // The number of the question that refuses a listing, or 0, and the count that it answers then.
-    fn counted(versions: &[Version]) -> (u8, Option<Answer>) {
+    // Whether a listing is made, or the number of the question that refuses it; and the count that it answers then.
+    fn counted(versions: &[Version]) -> (Result<(), u8>, Option<Answer>) {
         let mut listing = Listing::empty();
         let made = listing.make(versions, 0);
-        (refusal_number(made), listing.query(0, 0))
-    }
-
-    fn refusal_number(made: Result<(), Refusal>) -> u8 {
-        match made {
-            Ok(()) => 0,
-            Err(refusal) => refusal.report().number,
-        }
+        (
+            made.map_err(|refusal| refusal.report().number),
+            listing.query(0, 0),
+        )
     }
 
     #[test]
     fn a_listing_has_at_most_200_versions(rt: HostRuntime) {
         let versions = [VERSION; 201];
-        assert_eq!(rt; counted(&[]), (0, Some(Answer::Number(0))));
-        assert_eq!(rt; counted(&versions[..1]), (0, Some(Answer::Number(1))));
-        assert_eq!(rt; counted(&versions[..200]), (0, Some(Answer::Number(200))));
-        assert_eq!(rt; counted(&versions), (40, Some(Answer::Number(0))));
+        assert_eq!(rt; counted(&[]), (Ok(()), Some(Answer::Number(0))));
+        assert_eq!(rt; counted(&versions[..1]), (Ok(()), Some(Answer::Number(1))));
+        assert_eq!(rt;
+            counted(&versions[..200]),
+            (Ok(()), Some(Answer::Number(200)))
+        );
+        assert_eq!(rt; counted(&versions), (Err(40), Some(Answer::Number(0))));
     }
 
     #[test]
@@ -93,16 +91,12 @@ mod tests {
         }
     }
 
-    // Number and place of the refusal of a sheet, or 0 and 0.
-    fn fault(profile: u32, lines: &[Line]) -> (u8, u16) {
-        let mut sheet = Sheet::empty();
-        match sheet.make(profile, lines) {
-            Ok(()) => (0, 0),
-            Err(refusal) => {
-                let report = refusal.report();
-                (report.number, report.place)
-            }
-        }
+    // Makes a sheet; a refusal is its number and its place.
+    fn sheet_of(profile: u32, lines: &[Line]) -> Result<(), (u8, u16)> {
+        Sheet::empty().make(profile, lines).map_err(|refusal| {
+            let report = refusal.report();
+            (report.number, report.place)
+        })
     }
 
     // What a sheet of one line answers.
@@ -113,58 +107,62 @@ mod tests {
         sheet.query(question, number)
     }
 
-    // The refusal of a sheet of these lines, numbered from 0 on.
-    fn numbered_fault(lines: &mut [Line]) -> (u8, u16) {
-        let mut number: u16 = 0;
-        for line in lines.iter_mut() {
+    // Makes a sheet of these lines, numbered from 0 on.
+    fn numbered(lines: &mut [Line]) -> Result<(), (u8, u16)> {
+        for (line, number) in lines.iter_mut().zip(0..=u16::MAX) {
             line.number = number;
-            number = number.wrapping_add(1);
         }
-        fault(PROFILE, lines)
+        sheet_of(PROFILE, lines)
     }
 
     #[test]
     fn a_sheet_has_at_most_1024_lines(rt: HostRuntime) {
         let mut most = [line(0, 0, 0, 0); 1024];
-        assert_eq!(rt; numbered_fault(&mut most), (0, 0));
+        assert_eq!(rt; numbered(&mut most), Ok(()));
         let mut more = [line(0, 0, 0, 0); 1025];
-        assert_eq!(rt; numbered_fault(&mut more), (41, 0));
+        assert_eq!(rt; numbered(&mut more), Err((41, 0)));
     }
 
     #[test]
     fn a_digit_is_at_most_4(rt: HostRuntime) {
-        assert_eq!(rt; fault(0x4444_4444, &[]), (0, 0));
-        assert_eq!(rt; fault(0x5000_0000, &[]), (42, 7));
-        assert_eq!(rt; fault(0xf000_0050, &[]), (42, 1));
+        assert_eq!(rt; sheet_of(0x4444_4444, &[]), Ok(()));
+        assert_eq!(rt; sheet_of(0x5000_0000, &[]), Err((42, 7)));
+        assert_eq!(rt; sheet_of(0xf000_0050, &[]), Err((42, 1)));
     }
 
     #[test]
     fn a_line_is_legal(rt: HostRuntime) {
-        assert_eq!(rt; fault(PROFILE, &[line(7, 4095, 255, 0)]), (0, 0));
-        assert_eq!(rt; fault(PROFILE, &[line(8, 4095, 255, 0)]), (43, 0));
-        assert_eq!(rt; fault(PROFILE, &[line(6, 0, 0, 0)]), (43, 0));
-        assert_eq!(rt; fault(PROFILE, &[line(7, 4096, 255, 0)]), (43, 0));
-        assert_eq!(rt; fault(PROFILE, &[line(7, 4095, 256, 0)]), (43, 0));
-        assert_eq!(rt; fault(PROFILE, &[line(7, 4095, 255, 1)]), (43, 0));
+        assert_eq!(rt; sheet_of(PROFILE, &[line(7, 4095, 255, 0)]), Ok(()));
+        assert_eq!(rt; sheet_of(PROFILE, &[line(8, 4095, 255, 0)]), Err((43, 0)));
+        assert_eq!(rt; sheet_of(PROFILE, &[line(6, 0, 0, 0)]), Err((43, 0)));
+        assert_eq!(rt; sheet_of(PROFILE, &[line(7, 4096, 255, 0)]), Err((43, 0)));
+        assert_eq!(rt; sheet_of(PROFILE, &[line(7, 4095, 256, 0)]), Err((43, 0)));
+        assert_eq!(rt; sheet_of(PROFILE, &[line(7, 4095, 255, 1)]), Err((43, 0)));
     }
 
     #[test]
     fn an_answer_in_a_line_has_its_shape(rt: HostRuntime) {
-        assert_eq!(rt; fault(PROFILE, &[line(1, 0, 1, 0)]), (0, 0));
-        assert_eq!(rt; fault(PROFILE, &[line(1, 0, 2, 0)]), (43, 0));
-        assert_eq!(rt; fault(PROFILE, &[line(2, 0, 0, 1)]), (43, 0));
-        assert_eq!(rt; fault(PROFILE, &[line(2, 0, 1, 255)]), (0, 0));
-        assert_eq!(rt; fault(PROFILE, &[line(2, 0, 1, 256)]), (43, 0));
-        assert_eq!(rt; fault(PROFILE, &[line(3, 0, 255, 256)]), (43, 0));
+        assert_eq!(rt; sheet_of(PROFILE, &[line(1, 0, 1, 0)]), Ok(()));
+        assert_eq!(rt; sheet_of(PROFILE, &[line(1, 0, 2, 0)]), Err((43, 0)));
+        assert_eq!(rt; sheet_of(PROFILE, &[line(2, 0, 0, 1)]), Err((43, 0)));
+        assert_eq!(rt; sheet_of(PROFILE, &[line(2, 0, 1, 255)]), Ok(()));
+        assert_eq!(rt; sheet_of(PROFILE, &[line(2, 0, 1, 256)]), Err((43, 0)));
+        assert_eq!(rt; sheet_of(PROFILE, &[line(3, 0, 255, 256)]), Err((43, 0)));
     }
 
     #[test]
     fn a_line_is_new(rt: HostRuntime) {
         let first = line(0, 1, 2, 0);
-        assert_eq!(rt; fault(PROFILE, &[first, line(0, 2, 2, 0)]), (0, 0));
-        assert_eq!(rt; fault(PROFILE, &[first, line(7, 1, 2, 0)]), (0, 0));
-        assert_eq!(rt; fault(PROFILE, &[first, first, line(8, 0, 0, 0)]), (44, 1));
-        assert_eq!(rt; fault(PROFILE, &[first, line(0, 1, 256, 0)]), (43, 1));
+        assert_eq!(rt; sheet_of(PROFILE, &[first, line(0, 2, 2, 0)]), Ok(()));
+        assert_eq!(rt; sheet_of(PROFILE, &[first, line(7, 1, 2, 0)]), Ok(()));
+        assert_eq!(rt;
+            sheet_of(PROFILE, &[first, first, line(8, 0, 0, 0)]),
+            Err((44, 1))
+        );
+        assert_eq!(rt;
+            sheet_of(PROFILE, &[first, line(0, 1, 256, 0)]),
+            Err((43, 1))
+        );
     }
 
     #[test]
@@ -186,6 +184,6 @@ mod tests {
         assert_eq!(rt; put_answer(Answer::Pair(1, 2), &mut out), None);
         assert_eq!(rt; out[0], Node::BLANK);
         assert_eq!(rt; put_answer(Answer::Pair(1, 1), &mut out), Some(5));
-        assert_eq!(rt; out[0].kind.number(), Kind::Pair.number());
+        assert_eq!(rt; out[0].kind, Kind::Pair);
     }
 }

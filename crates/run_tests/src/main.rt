@@ -9,11 +9,11 @@ mod rooms;
 mod scenario;
 mod several;
 mod tables;
-mod words;
 
-use anyhow::anyhow;
+use anyhow::Context;
 use basic::BASIC;
 use calculus::entry::Entry;
+use calculus::node::Node;
 use checker::acceptance::Acceptance;
 use checker::check::check;
 use faults::FAULTS;
@@ -22,9 +22,10 @@ use hosts_change::HOSTS_CHANGE;
 use player::play;
 use rooms::ROOMS;
 use scenario::Scenario;
-use several::{others_refused, slices_agree, twins_agree};
+use several::Runs;
+use std::alloc::Global;
+use tables::nodes_of;
 use types::table::GIVEN;
-use words::nodes_of;
 
 // Rules whose runs must agree in slices and side by side, and the lengths of their tables.
 const AGREEING: [(&str, usize); 8] = [
@@ -38,13 +39,6 @@ const AGREEING: [(&str, usize); 8] = [
     ("AP,LA0,VA0*1365 ZE", 4096),
 ];
 
-// What is done with an accepted rule.
-#[derive(Clone, Copy)]
-enum Task<'a> {
-    Play(&'a Scenario),
-    Agree(usize),
-}
-
 fn print_play(rt: &HostRuntime, acceptance: &Acceptance, s: &Scenario) -> anyhow::Result<()> {
     let title = s.title;
     let calls = s.calls.len();
@@ -55,53 +49,43 @@ fn print_play(rt: &HostRuntime, acceptance: &Acceptance, s: &Scenario) -> anyhow
     Ok(())
 }
 
-fn print_agree(
-    rt: &HostRuntime,
-    acceptance: &Acceptance,
-    rule: &str,
-    length: usize,
-) -> anyhow::Result<()> {
-    let slices = slices_agree(rt.alloc(), acceptance, length)?;
-    let twins = twins_agree(rt.alloc(), acceptance, length)?;
-    let others = others_refused(rt.alloc(), acceptance, length)?;
+fn print_agree(rt: &HostRuntime, rule: &str, runs: Runs<'_>) -> anyhow::Result<()> {
+    let length = runs.length;
+    let slices = runs.slices_agree()?;
+    let twins = runs.twins_agree()?;
+    let others = runs.others_refused()?;
     println!(rt;
         "{rule} in {length}: slices agree {slices}, twins agree {twins}, others refused {others}"
     )?;
     Ok(())
 }
 
-fn do_task(
-    rt: &HostRuntime,
-    acceptance: &Acceptance,
-    rule: &str,
-    task: Task<'_>,
-) -> anyhow::Result<()> {
-    match task {
-        Task::Play(scenario) => print_play(rt, acceptance, scenario),
-        Task::Agree(length) => print_agree(rt, acceptance, rule, length),
-    }
-}
-
-// Checks a rule with the given types under the listing without versions, and does what is asked.
-fn with_rule(rt: &HostRuntime, rule: &str, task: Task<'_>) -> anyhow::Result<()> {
-    let heap = rt.alloc();
-    let nodes = nodes_of(heap, rule)?;
+// The acceptance of a rule with the given types, under the listing without versions.
+fn accepted(heap: Global, nodes: &[Node]) -> anyhow::Result<Acceptance<'_>> {
     let mut types = GIVEN.to_vec(heap)?;
     types.resize(nodes.len().saturating_add(6), Entry::BLANK)?;
     let mut scratch = vec![in heap; 0; nodes.len().saturating_mul(4)]?;
-    match check(&nodes, &mut types, 6, &mut scratch, &mut Listing::empty()) {
-        Ok(acceptance) => do_task(rt, &acceptance, rule, task),
-        Err(_) => Err(anyhow!("a rule is not accepted")),
-    }
+    check(nodes, &mut types, 6, &mut scratch, &mut Listing::empty())
+        .ok()
+        .context("a rule is not accepted")
 }
 
 fn print_all(rt: &HostRuntime) -> anyhow::Result<()> {
+    let heap = rt.alloc();
     let first = BASIC.iter().chain(HOSTS_CHANGE.iter());
     for scenario in first.chain(FAULTS.iter()).chain(ROOMS.iter()) {
-        with_rule(rt, scenario.rule, Task::Play(scenario))?;
+        let nodes = nodes_of(heap, scenario.rule)?;
+        print_play(rt, &accepted(heap, &nodes)?, scenario)?;
     }
     for (rule, length) in AGREEING {
-        with_rule(rt, rule, Task::Agree(length))?;
+        let nodes = nodes_of(heap, rule)?;
+        let acceptance = accepted(heap, &nodes)?;
+        let runs = Runs {
+            heap,
+            acceptance: &acceptance,
+            length,
+        };
+        print_agree(rt, rule, runs)?;
     }
     Ok(())
 }

@@ -1,7 +1,6 @@
 // Plays scenarios: each call in tables with noise where a run must not read, held to what it must answer and leave.
 use crate::scenario::{Call, End, Scenario, Under};
-use crate::tables::Tables;
-use crate::words::nodes_of;
+use crate::tables::{Tables, nodes_of};
 use calculus::node::Node;
 use checker::acceptance::Acceptance;
 use evaluator::close::close;
@@ -13,121 +12,108 @@ use hosts::listing::Listing;
 use hosts::sheet::Sheet;
 use refusals::{Refusal, Report};
 use std::alloc::Global;
+use std::mem;
 
-// Whether it is a refusal of a run with this question at this place.
-fn is_no(refusal: Refusal, number: u8, place: u16) -> bool {
-    let due = Report {
+// What a run reports that is refused with this question at this place.
+fn run_report(number: u8, place: u16) -> Report {
+    Report {
         layer: 3,
         number,
         place,
         child: 0,
-    };
-    refusal.report() == due
-}
-
-fn run_under(held: &mut Run, fuel: u32, under: Under, tables: &mut Tables) -> Result<Ran, Refusal> {
-    match under {
-        Under::Listing => run(
-            held,
-            fuel,
-            &mut tables.front,
-            &mut tables.back,
-            &mut Listing::empty(),
-        ),
-        Under::Sheet(profile, lines) => {
-            let mut sheet = Sheet::empty();
-            let _ = sheet.make(profile, lines);
-            run(held, fuel, &mut tables.front, &mut tables.back, &mut sheet)
-        }
     }
 }
 
-// Whether looking at the run shows this term.
-fn shows(held: &Run, tables: &Tables, term: &[Node]) -> bool {
-    match look(held, &tables.front) {
-        Ok(seen) => seen == term,
-        Err(_) => false,
-    }
-}
-
-// Whether a run stops as it must, with this term in front.
-fn stops(
+// A run that is played, and the tables that its calls are lent.
+#[derive(Drop)]
+struct Player {
     heap: Global,
-    held: &mut Run,
-    tables: &mut Tables,
-    fuel: u32,
-    under: Under,
-    due: Ran,
-    term: &[Node],
-) -> anyhow::Result<bool> {
-    let after = tables.holding(heap, term)?;
-    tables.disturb(held.records().unwrap_or(0));
-    Ok(match run_under(held, fuel, under, tables) {
-        Ok(ran) => ran == due && *tables == after && shows(held, tables, term),
-        Err(_) => false,
-    })
+    held: Run,
+    tables: Tables,
 }
 
-// Whether a run is refused with this question at this place, and leaves everything as it was.
-fn refuses(
-    held: &mut Run,
-    tables: &mut Tables,
-    fuel: u32,
-    under: Under,
-    number: u8,
-    place: u16,
-) -> anyhow::Result<bool> {
-    let records = held.records();
-    tables.disturb(records.unwrap_or(0));
-    let before = tables.copied()?;
-    Ok(match run_under(held, fuel, under, tables) {
-        Ok(_) => false,
-        Err(refusal) => {
-            is_no(refusal, number, place) && *tables == before && held.records() == records
-        }
-    })
-}
-
-// Makes a call, and says whether it answers and leaves what it must.
-fn is_due(heap: Global, held: &mut Run, tables: &mut Tables, call: &Call) -> anyhow::Result<bool> {
-    match call {
-        Call::Run(fuel, under, cause, made, total, text) => {
-            let term = nodes_of(heap, text)?;
-            let due = Ran {
-                cause: *cause,
-                made: *made,
-                total: *total,
-                records: term.len(),
-            };
-            stops(heap, held, tables, *fuel, *under, due, &term)
-        }
-        Call::No(fuel, under, number, place) => {
-            refuses(held, tables, *fuel, *under, *number, *place)
-        }
-        Call::Elsewhere(front, back) => {
-            let mut other = Tables::noisy(heap, *front, *back)?;
-            refuses(held, &mut other, u32::MAX, Under::Listing, 30, 0)
-        }
-        Call::Put(at, text) => {
-            tables.put(*at, &nodes_of(heap, text)?);
-            Ok(true)
+impl Player {
+    fn run(&mut self, fuel: u32, under: Under) -> Result<Ran, Refusal> {
+        let front = &mut self.tables.front;
+        let back = &mut self.tables.back;
+        match under {
+            Under::Listing => run(&mut self.held, fuel, front, back, &mut Listing::empty()),
+            Under::Sheet(profile, lines) => {
+                let mut sheet = Sheet::empty();
+                let _ = sheet.make(profile, lines);
+                run(&mut self.held, fuel, front, back, &mut sheet)
+            }
         }
     }
-}
 
-// The number of the first call that does not answer and leave what it must; calls count from 1.
-fn first_wrong(
-    heap: Global,
-    held: &mut Run,
-    tables: &mut Tables,
-    calls: &[Call],
-) -> anyhow::Result<Option<usize>> {
-    for (i, call) in calls.iter().enumerate() {
-        if !is_due(heap, held, tables, call)? {
-            return Ok(Some(i.saturating_add(1)));
+    // Writes noise where the run must not read.
+    fn disturb(&mut self) {
+        self.tables.disturb(self.held.records().unwrap_or(0));
+    }
+
+    // Whether looking at the run shows this term.
+    fn shows(&self, term: &[Node]) -> bool {
+        look(&self.held, &self.tables.front).is_ok_and(|seen| seen == term)
+    }
+
+    // Whether a run stops as it must, with this term in front.
+    fn stops(&mut self, fuel: u32, under: Under, due: Ran, term: &[Node]) -> anyhow::Result<bool> {
+        let after = self.tables.holding(self.heap, term)?;
+        self.disturb();
+        let ran = self.run(fuel, under);
+        Ok(ran == Ok(due) && self.tables == after && self.shows(term))
+    }
+
+    // Whether a run is refused with this question at this place, and leaves everything as it was.
+    fn refuses(&mut self, fuel: u32, under: Under, number: u8, place: u16) -> anyhow::Result<bool> {
+        let records = self.held.records();
+        self.disturb();
+        let before = self.tables.clone()?;
+        let report = self.run(fuel, under).map_err(|refusal| refusal.report());
+        let refused = report == Err(run_report(number, place));
+        Ok(refused && self.tables == before && self.held.records() == records)
+    }
+
+    // Whether a run in other tables of these lengths is refused as it must.
+    fn refuses_elsewhere(&mut self, front: usize, back: usize) -> anyhow::Result<bool> {
+        let other = Tables::noisy(self.heap, front, back)?;
+        let own = mem::replace(&mut self.tables, other);
+        let refused = self.refuses(u32::MAX, Under::Listing, 30, 0);
+        self.tables = own;
+        refused
+    }
+
+    // Makes a call, and says whether it answers and leaves what it must.
+    fn is_due(&mut self, call: Call) -> anyhow::Result<bool> {
+        match call {
+            Call::Run(fuel, under, cause, made, total, text) => {
+                let term = nodes_of(self.heap, text)?;
+                let due = Ran {
+                    cause,
+                    made,
+                    total,
+                    records: term.len(),
+                };
+                self.stops(fuel, under, due, &term)
+            }
+            Call::No(fuel, under, number, place) => self.refuses(fuel, under, number, place),
+            Call::Elsewhere(front, back) => self.refuses_elsewhere(front, back),
+            Call::Put(at, text) => {
+                self.tables.put(at, &nodes_of(self.heap, text)?);
+                Ok(true)
+            }
         }
     }
-    Ok(None)
+
+    // The number of the first call that does not answer and leave what it must; calls count from 1.
+    fn first_wrong(&mut self, calls: &[Call]) -> anyhow::Result<Option<usize>> {
+        for (number, call) in (1..=calls.len()).zip(calls) {
+            if !self.is_due(*call)? {
+                return Ok(Some(number));
+            }
+        }
+        Ok(None)
+    }
 }
 
 // How a run ended.
@@ -157,14 +143,16 @@ pub fn play(
     let started = if tables.fit(rule) {
         tables.holding(heap, rule)?
     } else {
-        tables.copied()?
+        tables.clone()?
     };
-    let (mut held, token) = start(acceptance, &mut tables.front, &mut tables.back);
-    let wrong = if tables == started {
-        first_wrong(heap, &mut held, &mut tables, scenario.calls)
+    let (held, token) = start(acceptance, &mut tables.front, &mut tables.back);
+    let mut player = Player { heap, held, tables };
+    let wrong = if player.tables == started {
+        player.first_wrong(scenario.calls)
     } else {
         Ok(Some(0))
     };
+    let Player { held, tables, .. } = player;
     let end = end_of(close(held, token, &tables.front));
     Ok(match wrong? {
         None if end != scenario.end => Some(scenario.calls.len().saturating_add(1)),

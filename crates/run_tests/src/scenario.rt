@@ -2,7 +2,7 @@
 use calculus::stop::StopCause;
 use hosts::line::Line;
 
-// The host of a call.
+// The host of a call. A scenario is a static table, so it names the host, and no closure makes it.
 #[derive(Clone, Copy)]
 pub enum Under {
     // the listing without versions
@@ -11,6 +11,7 @@ pub enum Under {
     Sheet(u32, &'static [Line]),
 }
 
+// A call, and what it must answer, in a static table of them.
 #[derive(Clone, Copy)]
 pub enum Call {
     // A run with so much fuel: it stops for this cause, after so many steps and so many in all, at this term.
@@ -23,6 +24,8 @@ pub enum Call {
     Put(usize, &'static str),
 }
 
+// How a run must end. It is no Result, since it stands in the tables, where `Err(No(..))` says no more; the question is a number,
+// since that is what is tested.
 #[derive(Clone, Copy, PartialEq, Eq)]
 pub enum End {
     // decided: the records, the steps in all and the type

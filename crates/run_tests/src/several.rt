@@ -5,6 +5,7 @@ use crate::tables::Tables;
 use calculus::stop::StopCause;
 use checker::acceptance::Acceptance;
 use evaluator::close::close;
+use evaluator::held::Run;
 use evaluator::run::run;
 use evaluator::start::{look, start};
 use hosts::listing::Listing;
@@ -18,92 +19,89 @@ struct Finish {
     end: End,
 }
 
-// Runs with so much fuel to a call until the fuel is not what stops it; none where a call is refused or its steps are not as
-// many as it says.
-fn run_out(acceptance: &Acceptance, tables: &mut Tables, fuel: u32) -> Option<Finish> {
+// Runs with so much fuel to a call until the fuel is not what stops it: why it stops, and after how many steps. None where a call
+// is refused, or its steps are not as many as it says.
+fn run_out(held: &mut Run, tables: &mut Tables, fuel: u32) -> Option<(StopCause, u32)> {
     let mut host = Listing::empty();
-    let mut cause = None;
     let mut steps: u32 = 0;
-    let (mut held, token) = start(acceptance, &mut tables.front, &mut tables.back);
     for _ in 0..10_000 {
-        let Ok(ran) = run(
-            &mut held,
-            fuel,
-            &mut tables.front,
-            &mut tables.back,
-            &mut host,
-        ) else {
-            cause = None;
-            break;
-        };
+        let ran = run(held, fuel, &mut tables.front, &mut tables.back, &mut host).ok()?;
         steps = steps.saturating_add(ran.made);
-        cause = Some(ran.cause);
-        if ran.cause != StopCause::Spent || ran.total != steps {
-            break;
+        if ran.total != steps {
+            return None;
+        }
+        if ran.cause != StopCause::Spent {
+            return Some((ran.cause, steps));
         }
     }
-    let end = end_of(close(held, token, &tables.front));
-    match cause {
-        Some(cause) => Some(Finish { cause, steps, end }),
-        None => None,
+    Some((StopCause::Spent, steps))
+}
+
+// Runs of one rule, each in two tables of this length.
+#[derive(Clone, Copy)]
+pub struct Runs<'a> {
+    pub heap: Global,
+    pub acceptance: &'a Acceptance<'a>,
+    pub length: usize,
+}
+
+impl Runs<'_> {
+    fn tables(&self) -> Result<Tables, AllocError> {
+        Tables::noisy(self.heap, self.length, self.length)
     }
-}
 
-// Whether runs in slices stop where the run at once does, with the same tables.
-pub fn slices_agree(
-    heap: Global,
-    acceptance: &Acceptance,
-    length: usize,
-) -> Result<bool, AllocError> {
-    let mut at_once = Tables::noisy(heap, length, length)?;
-    let whole = run_out(acceptance, &mut at_once, 1_000_000);
-    for fuel in [1, 2, 7] {
-        let mut sliced = Tables::noisy(heap, length, length)?;
-        if run_out(acceptance, &mut sliced, fuel) != whole || sliced != at_once {
-            return Ok(false);
-        }
+    // Where a run stops in these tables, with so much fuel to a call.
+    fn finish(&self, tables: &mut Tables, fuel: u32) -> Option<Finish> {
+        let (mut held, token) = start(self.acceptance, &mut tables.front, &mut tables.back);
+        let stop = run_out(&mut held, tables, fuel);
+        let end = end_of(close(held, token, &tables.front));
+        stop.map(|(cause, steps)| Finish { cause, steps, end })
     }
-    Ok(whole.is_some())
-}
 
-// Whether two runs of one acceptance, called in turn and closed with each other's token, end alike.
-pub fn twins_agree(
-    heap: Global,
-    acceptance: &Acceptance,
-    length: usize,
-) -> Result<bool, AllocError> {
-    let mut host = Listing::empty();
-    let mut a = Tables::noisy(heap, length, length)?;
-    let mut b = Tables::noisy(heap, length, length)?;
-    let (mut first, first_token) = start(acceptance, &mut a.front, &mut a.back);
-    let (mut second, second_token) = start(acceptance, &mut b.front, &mut b.back);
-    let began = run(&mut first, 1, &mut a.front, &mut a.back, &mut host);
-    let other = run(&mut second, 1_000, &mut b.front, &mut b.back, &mut host);
-    let ended = run(&mut first, 999, &mut a.front, &mut a.back, &mut host);
-    let first_end = end_of(close(first, second_token, &a.front));
-    let second_end = end_of(close(second, first_token, &b.front));
-    Ok(match (began, other, ended) {
-        (Ok(_), Ok(other), Ok(ended)) => {
-            ended.cause == other.cause
-                && ended.total == other.total
-                && ended.records == other.records
-                && first_end == second_end
-                && a == b
+    // Whether runs in slices stop where the run at once does, with the same tables.
+    pub fn slices_agree(&self) -> Result<bool, AllocError> {
+        let mut at_once = self.tables()?;
+        let whole = self.finish(&mut at_once, 1_000_000);
+        for fuel in [1, 2, 7] {
+            let mut sliced = self.tables()?;
+            if self.finish(&mut sliced, fuel) != whole || sliced != at_once {
+                return Ok(false);
+            }
         }
-        _ => false,
-    })
-}
+        Ok(whole.is_some())
+    }
 
-// Whether a front of another length than the run's is refused by look and by close.
-pub fn others_refused(
-    heap: Global,
-    acceptance: &Acceptance,
-    length: usize,
-) -> Result<bool, AllocError> {
-    let mut tables = Tables::noisy(heap, length, length)?;
-    let other = Tables::noisy(heap, length.saturating_add(1), length)?;
-    let (held, token) = start(acceptance, &mut tables.front, &mut tables.back);
-    let unseen = look(&held, &other.front).is_err();
-    let end = end_of(close(held, token, &other.front));
-    Ok(unseen && end == End::No(30, 0))
+    // Whether two runs of one acceptance, called in turn and closed with each other's token, end alike.
+    pub fn twins_agree(&self) -> Result<bool, AllocError> {
+        let mut host = Listing::empty();
+        let mut a = self.tables()?;
+        let mut b = self.tables()?;
+        let (mut first, first_token) = start(self.acceptance, &mut a.front, &mut a.back);
+        let (mut second, second_token) = start(self.acceptance, &mut b.front, &mut b.back);
+        let began = run(&mut first, 1, &mut a.front, &mut a.back, &mut host);
+        let other = run(&mut second, 1_000, &mut b.front, &mut b.back, &mut host);
+        let ended = run(&mut first, 999, &mut a.front, &mut a.back, &mut host);
+        let first_end = end_of(close(first, second_token, &a.front));
+        let second_end = end_of(close(second, first_token, &b.front));
+        Ok(match (began, other, ended) {
+            (Ok(_), Ok(other), Ok(ended)) => {
+                ended.cause == other.cause
+                    && ended.total == other.total
+                    && ended.records == other.records
+                    && first_end == second_end
+                    && a == b
+            }
+            _ => false,
+        })
+    }
+
+    // Whether a front of another length than the run's is refused by look and by close.
+    pub fn others_refused(&self) -> Result<bool, AllocError> {
+        let mut tables = self.tables()?;
+        let other = Tables::noisy(self.heap, self.length.saturating_add(1), self.length)?;
+        let (held, token) = start(self.acceptance, &mut tables.front, &mut tables.back);
+        let unseen = look(&held, &other.front).is_err();
+        let end = end_of(close(held, token, &other.front));
+        Ok(unseen && end == End::No(30, 0))
+    }
 }

@@ -1,6 +1,8 @@
 // The two tables of a run.
 use calculus::kind::Kind;
 use calculus::node::Node;
+use record_text::record::all_of;
+use record_text::text::{Rising, TextError, records};
 use std::alloc::{AllocError, Global};
 
 // What a caller leaves where a run must not read.
@@ -9,7 +11,12 @@ const NOISE: Node = Node {
     number: 9,
 };
 
-#[derive(PartialEq, Eq, Drop)]
+// The nodes of a text.
+pub fn nodes_of(heap: Global, text: &str) -> Result<Vec<Node>, TextError> {
+    all_of(heap, &records(heap, text, Rising::First)?)
+}
+
+#[derive(Clone, PartialEq, Eq, Drop)]
 pub struct Tables {
     pub front: Vec<Node>,
     pub back: Vec<Node>,
@@ -21,13 +28,6 @@ impl Tables {
         Ok(Tables {
             front: vec![in heap; NOISE; front]?,
             back: vec![in heap; NOISE; back]?,
-        })
-    }
-
-    pub fn copied(&self) -> Result<Tables, AllocError> {
-        Ok(Tables {
-            front: self.front.clone()?,
-            back: self.back.clone()?,
         })
     }
 
@@ -56,11 +56,9 @@ impl Tables {
 
     // Writes noise into front past its first `used` records, and into all of back.
     pub fn disturb(&mut self, used: usize) {
-        for place in self.front.iter_mut().skip(used) {
-            *place = NOISE;
+        if let Some((_, past)) = self.front.split_at_mut_checked(used) {
+            past.fill(NOISE);
         }
-        for place in self.back.iter_mut() {
-            *place = NOISE;
-        }
+        self.back.fill(NOISE);
     }
 }
