@@ -1,6 +1,7 @@
 -- What became of an accepted rule, from the safety of its run. Assumes nothing.
-use Rattle.std.proofs.Common.{◌≡◌, ℕ, ◌+◌, ◌-◌, ◌<◌, ◌≤◌, ◌⊎◌, List, [], ◌∷◌, ◌++◌, length, Some, None, Ok, Err, Option, Result, sym, refl, ap, ◌∙◌, subst, inl, inr, arith, MatchOption}
+use Rattle.std.proofs.Common.{◌≡◌, ℕ, ◌+◌, ◌-◌, ◌<◌, ◌≤◌, ◌⊎◌, List, [], ◌∷◌, ◌++◌, length, Some, None, Ok, Err, Option, Result, sym, refl, ap, ◌∙◌, subst, inl, inr, arith, true, false, is_some}
 use Rattle.std.specs.List.{AllByRecursion}
+use Rattle.std.specs.Option.{option_map}
 use Rattle.std.proofs.lemmas.List.{replicate-append-replicate, length-replicate}
 use Rattle.std.proofs.lemmas.Bool.{cases_eq, cases_lt}
 use Rattle.refusals.specs.declared.Question.{Question}
@@ -18,23 +19,27 @@ use Rattle.calculus.specs.Steps.{Step}
 use Rattle.calculus.specs.Runs.{Run, steps_under, Cause}
 use Rattle.calculus.proofs.Options.{none_some}
 use Rattle.evaluator.specs.declared.held.Held.{Held}
-use Rattle.evaluator.specs.declared.outcome.Closing.{Closing}
-use Rattle.evaluator.specs.declared.outcome.Closing.TheVariants as closing
+use Rattle.evaluator.specs.declared.outcome.Decided.{Decided}
 use Rattle.evaluator.specs.declared.outcome.Ran.{Ran}
 use Rattle.evaluator.specs.OneCall.{most_steps, in_run, State, blanks, Fits, StartCall, RunRefused, no_term, no_fuel, no_profile, no_closed, CloseCall}
 use Rattle.evaluator.specs.Lists.{Call, run_call, hosts}
 use Rattle.evaluator.specs.Safety.{Other, Quiet, Safe, SafeFrom}
 use Rattle.evaluator.proofs.Slices.{calls_more}
 use Rattle.evaluator.proofs.Once.{Moved, moved, refused_fuel, its_profile}
-use Rattle.decider.specs.declared.decision.Decision.{Decision}
-use Rattle.decider.specs.declared.decision.Decision.TheVariants.{Decided, Stopped, Refused}
+use Rattle.decider.specs.declared.decision.Undecided.TheVariants.{Stopped, Refused}
 use Rattle.decider.specs.Slices.{Sliced}
-use Rattle.decider.specs.Deciding.{decision, LeftBy, Ends, decides, leaves, overspends}
+use Rattle.decider.specs.Deciding.{Decision, decision, LeftBy, Ends, decides, leaves, overspends}
 use Rattle.decider.proofs.Slicing.{hosts_more}
 
 all_last : {X : Type 0} (P : X → Type 0) (xs : List X) (x : X) → AllByRecursion P (xs ++ (x ∷ [])) → P x
 all_last P [] x a = a.0
 all_last P (y ∷ xs) x a = all_last P xs x a.1
+
+decided_is : (d : Decided) (records steps type : ℕ) → d.records ≡ records → d.steps ≡ steps → d.type_number ≡ type
+    → ◌≡◌ {A = Decided} (record { records = records; steps = steps; type_number = type }) d
+decided_is d records steps type p q r =
+    let made : ℕ → ℕ → ℕ → Decided = λ x y z. record { records = x; steps = y; type_number = z } in
+    ap (λ x. made x steps type) (sym p) ∙ ap (λ y. made d.records y type) (sym q) ∙ ap (λ z. made d.records d.steps z) (sym r)
 
 -- Whether tables fit a rule.
 
@@ -71,7 +76,7 @@ module _ (m : Meaning) (fuel : ℕ) (rule : Term) (type profile : ℕ) (front ba
   only_fuel before middle made asked S u few (no_profile t f p) o = absurd (p (sym same ∙ sym (its_profile S.holding t.0.0)))
   only_fuel before middle made asked S u few (no_closed t f p k) o = absurd (o.1 refl)
 
-  pub ends_refused : (x : Refusal) (s' : State) → Sliced m fuel s₀ (Err x) s' → (front' : List Node) → Ends m fuel rule type front back (Refused x) front'
+  pub ends_refused : (x : Refusal) (s' : State) → Sliced m fuel s₀ (Err x) s' → (front' : List Node) → Ends m fuel rule type front back (Err (Refused x)) front'
   ends_refused x s' sl front' =
       let c = run_call m sl.asked (Err x) in
       let S = safe sl.middle sl.before sl.lead in
@@ -79,7 +84,7 @@ module _ (m : Meaning) (fuel : ℕ) (rule : Term) (type profile : ℕ) (front ba
       let other : Other x = all_last Quiet sl.before c T.quiet in
       let e = sl.last.0.1 in
       let o = only_fuel sl.before sl.middle sl.made sl.asked S sl.under sl.few sl.last.0.2 (subst Other e other) in
-      subst (λ (y : Refusal). Ends m fuel rule type front back (Refused y) front') (sym (e ∙ o.0)) (overspends o.1)
+      subst (λ (y : Refusal). Ends m fuel rule type front back (Err (Refused y)) front') (sym (e ∙ o.0)) (overspends o.1)
 
   module _ (ran : Ran) (s' : State) (sl : Sliced m fuel s₀ (Ok ran) s') where
     abbrev all : List Call
@@ -133,36 +138,35 @@ module _ (m : Meaning) (fuel : ℕ) (rule : Term) (type profile : ℕ) (front ba
           subst (λ (p : ℕ). Typed (reading es) p [] S.held τ) same
           (S.typed es τ d g (subst (λ (p : ℕ). Typed (reading es) p [] rule τ) (sym same) t))
 
-      ends_closed : (c : Closing) → CloseCall s'.run s'.front c → Ends m fuel rule type front back (decision (Ok ran) c) s'.front
-      ends_closed (closing.Decided records st number) k =
-          let w = S.closes (closing.Decided records st number) k in
-          let e : ◌≡◌ {A = Decision} (Decided (size S.held) steps type) (Decided records st number) =
-          (let a = w.1 in let b = w.2 ∙ many in let d = w.3 in cc) in
+      ends_closed : (c : Result Decided Refusal) → CloseCall s'.run s'.front c → Ends m fuel rule type front back (decision (Ok ran) c) s'.front
+      ends_closed (Ok d) k =
+          let w = S.closes (Ok d) k in
+          let value : Decided = record { records = size S.held; steps = steps; type_number = type } in
+          let e : ◌≡◌ {A = Decision} (Ok value) (Ok d) = ap (λ (x : Decided). Ok x) (decided_is d (size S.held) steps type w.1 (w.2 ∙ many) w.3) in
           subst (λ (d : Decision). Ends m fuel rule type front back d s'.front) e
-          (subst (λ (f : List Node). Ends m fuel rule type front back (Decided (size S.held) steps type) f) (sym S.holding.front)
+          (subst (λ (f : List Node). Ends m fuel rule type front back (Ok value) f) (sym S.holding.front)
           (decides S.held w.0 becomes few keeps))
-      ends_closed (closing.Undecided x) k =
-          let w = S.closes (closing.Undecided x) k in
+      ends_closed (Err x) k =
+          let w = S.closes (Err x) k in
           let e : steps ≡ ran.total = omega (arith, M.total, before_many) in
-          subst (λ (n : ℕ). Ends m fuel rule type front back (Stopped ran.cause n) s'.front) e
-          (subst (λ (f : List Node). Ends m fuel rule type front back (Stopped ran.cause steps) f) (sym S.holding.front)
+          subst (λ (n : ℕ). Ends m fuel rule type front back (Err (Stopped ran.cause n)) s'.front) e
+          (subst (λ (f : List Node). Ends m fuel rule type front back (Err (Stopped ran.cause steps)) f) (sym S.holding.front)
           (leaves S.held w.0 becomes few (left_by w.0 ran.cause refl)))
 
-    pub ends_ran : (c : Closing) → CloseCall s'.run s'.front c → Ends m fuel rule type front back (decision (Ok ran) c) s'.front
+    pub ends_ran : (c : Result Decided Refusal) → CloseCall s'.run s'.front c → Ends m fuel rule type front back (decision (Ok ran) c) s'.front
     ends_ran c k = ends_closed last_safe (moved (safe sl.middle sl.before sl.lead).holding sl.last) c k
 
-  pub ends_with : (r : Result Ran Refusal) (s' : State) → Sliced m fuel s₀ r s' → (c : Closing) → CloseCall s'.run s'.front c
+  pub ends_with : (r : Result Ran Refusal) (s' : State) → Sliced m fuel s₀ r s' → (c : Result Decided Refusal) → CloseCall s'.run s'.front c
       → Ends m fuel rule type front back (decision r c) s'.front
   ends_with (Err x) s' sl c k = ends_refused x s' sl s'.front
   ends_with (Ok ran) s' sl c k = ends_ran ran s' sl c k
 
 -- Whether a run holds a term, by how many records it says.
 
-pub nothing_held : (o : Option Held) (r : Option ℕ) → r ≡ None → MatchOption o (r ≡ None) (λ h. r ≡ Some h.count) → o ≡ None
-nothing_held None r e c = refl
-nothing_held (Some h) r e c = none_some (sym e ∙ c)
+pub nothing_held : (o : Option Held) → is_some (option_map (λ (h : Held). h.count) o) ≡ false → o ≡ None
+nothing_held None e = refl
+nothing_held (Some h) e = cc
 
-pub something_held : (o : Option Held) (r : Option ℕ) (n : ℕ) → r ≡ Some n → MatchOption o (r ≡ None) (λ h. r ≡ Some h.count)
-    → (h : Held) × (o ≡ Some h)
-something_held None r n e c = none_some (sym c ∙ e)
-something_held (Some h) r n e c = (h, refl)
+pub something_held : (o : Option Held) → is_some (option_map (λ (h : Held). h.count) o) ≡ true → (h : Held) × (o ≡ Some h)
+something_held None e = cc
+something_held (Some h) e = (h, refl)

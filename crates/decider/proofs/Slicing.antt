@@ -1,16 +1,14 @@
 -- Slices one after the other are a list of calls under one meaning. Assumes nothing.
 use Rattle.std.proofs.Common.{◌≡◌, ℕ, ◌+◌, ◌-◌, ◌≤◌, List, [], ◌∷◌, ◌++◌, Ok, Err, sym, ap, ◌∙◌, subst, arith}
 use Rattle.std.proofs.lemmas.List.{append_assoc, append-nil, replicate-append-replicate}
-use Rattle.refusals.specs.declared.Refusal.{Refusal}
 use Rattle.calculus.specs.declared.stop.StopCause.{StopCause}
 use Rattle.calculus.specs.declared.stop.StopCause.TheVariants as cause
 use Rattle.calculus.specs.Meanings.{Meaning, Lawful}
 use Rattle.calculus.specs.Runs.{steps_under, Cause}
 use Rattle.evaluator.specs.declared.outcome.Ran.{Ran}
-use Rattle.evaluator.specs.OneCall.{State, RunMade, RunCall}
+use Rattle.evaluator.specs.OneCall.{State, RunMade}
 use Rattle.evaluator.specs.Lists.{Call, run_call, look_call, Calls, none, hosts}
 use Rattle.evaluator.proofs.Slices.{calls_more}
-use Rattle.decider.specs.Slices.{Sliced}
 
 -- the steps of one call more
 pub hosts_more : (cs : List Call) (m : Meaning) (f : ℕ) (r : Ran) → hosts (cs ++ (run_call m f (Ok r) ∷ [])) ≡ hosts cs ++ steps_under m r.made
@@ -49,30 +47,4 @@ module _ {m : Meaning} {fuel left : ℕ} {s₀ s : State} (so : Slicing m fuel l
         made_under r
         ∙ (let z : fuel - left + r.made ≡ fuel - (left - asked) = omega (arith, spent_made k e, so.within) in ap (steps_under m) z);
     within = omega (arith, so.within);
-  }
-
-  pub sliced_ran : {r : Ran} {s' : State} → RunMade m asked s r s' → (r.cause ≡ cause.Spent → asked ≡ left) → Sliced m fuel s₀ (Ok r) s'
-  sliced_ran {r} k end = record {
-    before = so.calls;
-    middle = s;
-    lead = so.lead;
-    made = fuel - left;
-    under = so.under;
-    asked = asked;
-    last = k;
-    few = omega (arith, so.within);
-    whole = λ e. omega (arith, end e, so.within);
-  }
-
-  pub sliced_refused : {x : Refusal} {s' : State} → RunCall m asked s (Err x) s' → Sliced m fuel s₀ (Err x) s'
-  sliced_refused {x} k = record {
-    before = so.calls;
-    middle = s;
-    lead = so.lead;
-    made = fuel - left;
-    under = so.under;
-    asked = asked;
-    last = k;
-    few = omega (arith, so.within);
-    whole = tt;
   }

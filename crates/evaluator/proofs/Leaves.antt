@@ -1,37 +1,36 @@
 -- What the steps of a run call leave in its tables, and with its questions the whole call.
-use Rattle.std.proofs.Common.{◌≡◌, ℕ, ◌+◌, ◌-◌, List, ◌++◌, length, take, Some, sym, refl, ap, ◌∙◌, subst, arith, length-take-le}
+use Rattle.std.proofs.Common.{◌≡◌, ℕ, ◌-◌, List, ◌++◌, length, take, Some, sym, refl, ap, ◌∙◌, subst, arith, length-take-le}
 use Rattle.calculus.specs.declared.node.Node.{Node}
 use Rattle.calculus.specs.Syntax.{size, flat}
 use Rattle.calculus.specs.Meanings.{Meaning}
 use Rattle.calculus.specs.Runs.{Stopped}
 use Rattle.calculus.proofs.Reading.{length_flat}
 use Rattle.evaluator.specs.declared.held.Held.{Held}
-use Rattle.evaluator.specs.declared.outcome.Halt.{Halt}
 use Rattle.evaluator.specs.declared.outcome.Ran.{Ran}
 use Rattle.evaluator.specs.OneCall.{State, blanks, RunMade}
 use Rattle.evaluator.specs.Evaluating.{Runnable, Halted, Evaluated}
 use Rattle.rewriter.proofs.Flats.{onto_flat}
 
-module _ {m : Meaning} {fuel : ℕ} {front front' : List Node} (h : Held) (stop : Halt) (E : Halted m fuel h.count front front' stop)
+module _ {m : Meaning} {fuel : ℕ} {front front' : List Node} (h : Held) (r : Ran) (E : Halted m fuel h front front' r)
     (room : length front ≡ h.length) (room' : length front' ≡ h.length) where
   -- as many records as the term has nodes
-  used_size : stop.used ≡ size E.to
-  used_size = sym (length-take-le stop.used front' (omega (arith, E.within)))
+  used_size : r.records ≡ size E.to
+  used_size = sym (length-take-le r.records front' (omega (arith, E.within)))
       ∙ ap (λ (l : List Node). length l) (sym E.holds) ∙ length_flat E.to
 
-  pub evaluated : (front'' back'' : List Node) → front'' ≡ take stop.used front' ++ blanks (length front' - stop.used) → back'' ≡ blanks h.length
-      → Evaluated m fuel h front (record { cause = stop.cause; made = stop.made; total = h.steps + stop.made; records = stop.used }) front'' back''
+  pub evaluated : (front'' back'' : List Node) → front'' ≡ take r.records front' ++ blanks (length front' - r.records) → back'' ≡ blanks h.length
+      → Evaluated m fuel h front r front'' back''
   evaluated front'' back'' f b = record {
     from = E.from;
     reads = E.reads;
     to = E.to;
-    stopped = subst (λ (n : ℕ). Stopped m fuel n stop.cause stop.made E.from E.to) room E.stopped;
+    stopped = subst (λ (n : ℕ). Stopped m fuel n r.cause r.made E.from E.to) room E.stopped;
     fits = omega (arith, used_size, E.within);
-    front_after = f ∙ ap (λ (l : List Node). l ++ blanks (length front' - stop.used)) (sym E.holds)
-        ∙ ap (λ (n : ℕ). flat E.to ++ blanks n) (ap (λ (n : ℕ). n - stop.used) room' ∙ ap (λ (n : ℕ). h.length - n) used_size)
+    front_after = f ∙ ap (λ (l : List Node). l ++ blanks (length front' - r.records)) (sym E.holds)
+        ∙ ap (λ (n : ℕ). flat E.to ++ blanks n) (ap (λ (n : ℕ). n - r.records) room' ∙ ap (λ (n : ℕ). h.length - n) used_size)
         ∙ sym (onto_flat E.to (blanks (h.length - size E.to)));
     back_after = b;
-    total = refl;
+    total = E.total;
     records = used_size;
   }
 

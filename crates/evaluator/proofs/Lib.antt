@@ -8,5 +8,6 @@ pub mod Whole
 pub mod Slices
 pub mod Starts
 pub mod Halts
+pub mod Results
 pub mod Leaves
 pub mod Example

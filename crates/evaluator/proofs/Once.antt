@@ -1,5 +1,5 @@
 -- One call on a run that holds a term.
-use Rattle.std.proofs.Common.{◌≡◌, ℕ, zero, suc, ◌+◌, ◌-◌, ◌<◌, ◌≤◌, List, [], length, take, Some, sym, refl, ap, ◌∙◌, subst, arith}
+use Rattle.std.proofs.Common.{◌≡◌, ℕ, zero, suc, ◌+◌, ◌-◌, ◌<◌, ◌≤◌, List, [], length, take, Some, Ok, Err, Result, sym, refl, ap, ◌∙◌, subst, arith}
 use mathlib.Core.Logic.{∥∥₁_elim, ∥∥₁_map}
 use mathlib.Core.HLevel.{⊥_prop}
 use lib.ListN.{length-replicate}
@@ -21,10 +21,10 @@ use Rattle.calculus.proofs.Readings.{answers_read}
 use Rattle.calculus.proofs.Runs.{run_keeps_type}
 use Rattle.refusals.specs.declared.Question.{Question}
 use Rattle.refusals.specs.declared.Question.TheVariants as question
+use Rattle.refusals.specs.declared.Refusal.{Refusal}
 use Rattle.rewriter.specs.ClosedTerms.{any_type, FirstClosedFault}
 use Rattle.evaluator.specs.declared.held.Held.{Held}
-use Rattle.evaluator.specs.declared.outcome.Closing.{Closing}
-use Rattle.evaluator.specs.declared.outcome.Closing.TheVariants.{Decided, Undecided}
+use Rattle.evaluator.specs.declared.outcome.Decided.{Decided}
 use Rattle.evaluator.specs.declared.outcome.Ran.{Ran}
 use Rattle.evaluator.specs.OneCall.{most_steps, in_run, State, blanks, Holding, FrontFits, TablesFit, FuelLeft, RunMade, CloseRefused, nothing_held, not_closed, not_value, CloseCall}
 use Rattle.evaluator.specs.Safety.{ClosesWith}
@@ -132,8 +132,8 @@ module _ {e : Term} {n type profile room : ℕ} {s : State} (H : Holding e n typ
     undecided (not_value {e = u} t r f) =
         (λ v. f (subst Value (sym (read_once u e [] [] (r.0 ∙ shown t.0)).0) v), refl)
 
-    pub closes_with : (r : Closing) → CloseCall s.run s.front r → ClosesWith type n e r
-    closes_with (Decided records steps number) c =
+    pub closes_with : (r : Result Decided Refusal) → CloseCall s.run s.front r → ClosesWith type n e r
+    closes_with (Ok d) c =
         let p = c.1.0 in
         let k = noted p in (
           subst Value (read_once c.2 e [] [] (c.3.0 ∙ shown p)).0 c.4,
@@ -141,7 +141,7 @@ module _ {e : Term} {n type profile room : ℕ} {s : State} (H : Holding e n typ
           c.6 ∙ its_steps p,
           c.7 ∙ ap (λ (x : Held). x.type_number) (sym k) ∙ H.type_is,
         )
-    closes_with (Undecided x) c = let u = undecided c.2 in (u.0, c.1 ∙ ap in_run u.1)
+    closes_with (Err x) c = let u = undecided c.2 in (u.0, c.1 ∙ ap in_run u.1)
 
 all_under : (profile : ℕ) (m : Meaning) → LawfulUnder profile m → (k : ℕ) → AllByRecursion (LawfulUnder profile) (steps_under m k)
 all_under profile m l zero = tt

@@ -3,7 +3,7 @@
 --   under_more   it has the same host
 --   one_host     every step was made under that host
 --   closed_run   what the rule became is closed
-use Rattle.std.proofs.Common.{◌≡◌, ℕ, ◌+◌, List, [], ◌∷◌, ◌++◌, length, Ok, Err, sym, refl, ap, ◌∙◌, subst, length-append}
+use Rattle.std.proofs.Common.{◌≡◌, ℕ, ◌+◌, List, [], ◌∷◌, ◌++◌, length, Ok, Err, Result, sym, refl, ap, ◌∙◌, subst, length-append}
 use lib.ListN.{length-replicate}
 use Rattle.std.proofs.lemmas.List.{replicate-append-replicate}
 use Rattle.std.specs.List.{AllByRecursion}
@@ -11,7 +11,8 @@ use Rattle.std.proofs.ByRecursion.{All-push}
 use Rattle.calculus.specs.Syntax.{Term}
 use Rattle.calculus.specs.Meanings.{Meaning}
 use Rattle.calculus.specs.Runs.{Run, steps_under}
-use Rattle.evaluator.specs.declared.outcome.Closing.{Closing}
+use Rattle.refusals.specs.declared.Refusal.{Refusal}
+use Rattle.evaluator.specs.declared.outcome.Decided.{Decided}
 use Rattle.evaluator.specs.OneCall.{State, CloseCall}
 use Rattle.evaluator.specs.Lists
 use Rattle.evaluator.specs.Lists.{Call, run_call, look_call, Does, Calls, call, hosts, Under}
@@ -35,7 +36,7 @@ one_host m (run_call m' fuel (Err x) ∷ cs) h = one_host m cs h.1
 one_host m (look_call a ∷ cs) h = one_host m cs h.1
 
 pub closed_run : {rule : Term} {type profile room : ℕ} {cs : List Call} {s : State} (m : Meaning) → Safe rule type profile room cs s
-    → AllByRecursion (Under m) cs → (r : Closing) → CloseCall s.run s.front r → ClosedRun rule type m r
+    → AllByRecursion (Under m) cs → (r : Result Decided Refusal) → CloseCall s.run s.front r → ClosedRun rule type m r
 closed_run {rule} {cs = cs} m S h r c = (
   length (hosts cs),
   S.held,

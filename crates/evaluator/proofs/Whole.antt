@@ -46,6 +46,20 @@ module _ (type profile room : ℕ) (small : room ≤ 4096) where
   held_still : {s s' : State} {n : ℕ} {e : Term} → s' ≡ s → Holding e n type profile room s → Holding e n type profile room s'
   held_still {n = n} {e = e} p H = subst (λ (x : State). Holding e n type profile room x) (sym p) H
 
+  -- a call that makes no step leaves what the calls after it leave
+  idle : {n : ℕ} {e : Term} {cs : List Call} {s : State} (c : Call) → hosts (c ∷ cs) ≡ hosts cs → Quiet c
+      → (A : After type profile room n e cs s) → Follows profile room n e (c ∷ cs) A.held → After type profile room n e (c ∷ cs) s
+  idle {n = n} {e = e} {s = s} c same q A f = record {
+    held = A.held;
+    holding = subst (λ (l : List Meaning). Holding A.held (n + length l) type profile room s) (sym same) A.holding;
+    narrow = A.narrow;
+    accepted = A.accepted;
+    typed = A.typed;
+    quiet = (q, A.quiet);
+    becomes = subst (λ (l : List Meaning). Run l e A.held) (sym same) A.becomes;
+    follows = f;
+  }
+
   module _ {s s' s'' : State} {cs : List Call} (later : Later s' cs s'') (n : ℕ) (e : Term)
       (H : Holding e n type profile room s) (narrow : TypesBelow any_type e) (acc : Accepted e type profile) where
     runs_on : (m : Meaning) (fuel : ℕ) (r : Ran) → Lawful m → RunMade m fuel s r s'
@@ -71,44 +85,18 @@ module _ (type profile room : ℕ) (small : room ≤ 4096) where
     refused_run m fuel q (no_term f) p = absurd (f H.note (tables_fit H))
     refused_run m fuel q (no_fuel t f) p =
         let A = later n e (held_still p H) narrow acc in
-        record {
-          held = A.held;
-          holding = A.holding;
-          narrow = A.narrow;
-          accepted = A.accepted;
-          typed = A.typed;
-          quiet = ((omega arith, omega arith), A.quiet);
-          becomes = A.becomes;
-          follows = overspends (refused_fuel H t.0.0 fuel f) A.follows;
-        }
+        idle (run_call m fuel (Err (in_run q))) refl (omega arith, omega arith) A (overspends (refused_fuel H t.0.0 fuel f) A.follows)
     refused_run m fuel q (no_profile t f d) p =
         let A = later n e (held_still p H) narrow acc in
-        record {
-          held = A.held;
-          holding = A.holding;
-          narrow = A.narrow;
-          accepted = A.accepted;
-          typed = A.typed;
-          quiet = ((omega arith, omega arith), A.quiet);
-          becomes = A.becomes;
-          follows = differs (granted_fuel H t.0.0 fuel f) (λ x. d (x ∙ sym (its_profile H t.0.0))) A.follows;
-        }
+        idle (run_call m fuel (Err (in_run q))) refl (omega arith, omega arith) A
+        (differs (granted_fuel H t.0.0 fuel f) (λ x. d (x ∙ sym (its_profile H t.0.0))) A.follows)
     refused_run m fuel q (no_closed t f d x) p = absurd (never_fault H small narrow acc t.0.0 x)
 
     looked : (ns : List Node) → LookCall s.run s.front (Ok ns) → s' ≡ s
         → After type profile room n e (look_call (Ok ns) ∷ cs) s''
     looked ns d p =
         let A = later n e (held_still p H) narrow acc in
-        record {
-          held = A.held;
-          holding = A.holding;
-          narrow = A.narrow;
-          accepted = A.accepted;
-          typed = A.typed;
-          quiet = (tt, A.quiet);
-          becomes = A.becomes;
-          follows = shows (d.2 ∙ shown H d.1.0) A.follows;
-        }
+        idle (look_call (Ok ns)) refl tt A (shows (d.2 ∙ shown H d.1.0) A.follows)
 
   extend : {s s' s'' : State} {cs : List Call} (c : Call) → Does s c s' → Later s' cs s'' → Later s (c ∷ cs) s''
   extend (run_call m fuel (Ok r)) d later n e H narrow acc = runs_on later n e H narrow acc m fuel r d.0 d.1

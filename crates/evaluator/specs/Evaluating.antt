@@ -12,7 +12,6 @@ use Rattle.calculus.specs.Runs.{Stopped}
 use Rattle.rewriter.specs.ClosedTerms.{OneClosed}
 use Rattle.evaluator.specs.declared.held.Held.{Held}
 use Rattle.evaluator.specs.declared.held.Run.{Run}
-use Rattle.evaluator.specs.declared.outcome.Halt.{Halt}
 use Rattle.evaluator.specs.declared.outcome.Ran.{Ran}
 use Rattle.evaluator.specs.OneCall.{State, blanks, Reads, FrontFits, TablesFit, FuelLeft}
 
@@ -28,14 +27,15 @@ pub record Closable (run : Run) (front : List Node) (h : Held) : Type 0 where
   pub reads : Reads (take h.count front) term
   pub value : Value term
 
--- From the first `count` nodes of front the run went to where it stops, and left the term there at the beginning of front'.
-pub record Halted (m : Meaning) (fuel count : ℕ) (front front' : List Node) (h : Halt) : Type 0 where
+-- From the term that front holds the run went to where it stops, and left the term there at the beginning of front'.
+pub record Halted (m : Meaning) (fuel : ℕ) (h : Held) (front front' : List Node) (r : Ran) : Type 0 where
   pub from : Term
-  pub reads : Reads (take count front) from
+  pub reads : Reads (take h.count front) from
   pub to : Term
-  pub stopped : Stopped m fuel (length front) h.cause h.made from to
-  pub within : h.used ≤ length front
-  pub holds : flat to ≡ take h.used front'
+  pub stopped : Stopped m fuel (length front) r.cause r.made from to
+  pub within : r.records ≤ length front
+  pub holds : flat to ≡ take r.records front'
+  pub total : r.total ≡ h.steps + r.made
 
 pub record Evaluated (m : Meaning) (fuel : ℕ) (h : Held) (front : List Node) (r : Ran) (front' back' : List Node) : Type 0 where
   pub from : Term

@@ -2,6 +2,7 @@
 --   most_steps    how many steps a run may make in all
 --   in_run        the refusal of a question by run, look or close
 --   State         a run with its own two tables
+--   state_of      a run with these tables
 --   blanks        so many unused places of a node table
 --   Reads         nodes are one closed term, with indices and questions in range
 --   Holding       a run holds a term after some steps; front is the term and blanks, back is blank
@@ -34,8 +35,7 @@ use Rattle.rewriter.specs.ClosedTerms.{any_type, ClosedTerm, FirstClosedFault}
 use Rattle.evaluator.specs.declared.held.Held.{Held}
 use Rattle.evaluator.specs.declared.held.Run.{Run}
 use Rattle.evaluator.specs.declared.outcome.Ran.{Ran}
-use Rattle.evaluator.specs.declared.outcome.Closing.{Closing}
-use Rattle.evaluator.specs.declared.outcome.Closing.TheVariants.{Decided, Undecided}
+use Rattle.evaluator.specs.declared.outcome.Decided.{Decided}
 
 abbrev pub most_steps : ℕ
 most_steps = 1000000
@@ -47,6 +47,9 @@ pub record State : Type 0 where
   pub run : Run
   pub front : List Node
   pub back : List Node
+
+abbrev pub state_of : Run → List Node → List Node → State
+state_of run front back = record { run = run; front = front; back = back }
 
 abbrev pub blanks : ℕ → List Node
 blanks n = replicate n blank
@@ -83,7 +86,7 @@ pub record Started (rule : Term) (type profile room : ℕ) (s : State) : Type 0 
 -- With tables that fit, the run holds the rule; otherwise it holds nothing, and both tables are untouched.
 pub record StartCall (rule : Term) (type profile : ℕ) (front back : List Node) (s : State) : Type 0 where
   pub fit : Fits rule front back → Started rule type profile (length front) s
-  pub unfit : (Fits rule front back → ⊥) → s ≡ record { run = record { held = None }; front = front; back = back }
+  pub unfit : (Fits rule front back → ⊥) → s ≡ state_of (record { held = None }) front back
 
 abbrev pub FrontFits : Run → List Node → Held → Type 0
 FrontFits run front h = (run.held ≡ Some h) × (length front ≡ h.length)
@@ -134,8 +137,8 @@ pub data CloseRefused (run : Run) (front : List Node) : Question → Type 0 wher
       → CloseRefused run front question.ValueHeld
 
 -- A value that the run holds, with its records, its steps and its type; or the first question that is answered no.
-abbrev pub CloseCall : Run → List Node → Closing → Type 0
-CloseCall run front (Decided records steps type) =
+abbrev pub CloseCall : Run → List Node → Result Decided Refusal → Type 0
+CloseCall run front (Ok d) =
     (h : Held) × FrontFits run front h × (e : Term) × Reads (take h.count front) e × Value e
-    × (records ≡ h.count) × (steps ≡ h.steps) × (type ≡ h.type_number)
-CloseCall run front (Undecided x) = (q : Question) × (x ≡ in_run q) × CloseRefused run front q
+    × (d.records ≡ h.count) × (d.steps ≡ h.steps) × (d.type_number ≡ h.type_number)
+CloseCall run front (Err x) = (q : Question) × (x ≡ in_run q) × CloseRefused run front q

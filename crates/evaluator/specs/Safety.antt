@@ -11,7 +11,7 @@
 --   Safety      the theorem
 --   ClosedRun   what a rule becomes in some number of steps under one meaning is closed with this answer
 -- Assumes nothing.
-use Rattle.std.specs.Prelude.{◌≡◌, ℕ, ◌+◌, ◌<◌, ◌≤◌, ◌⊎◌, List, [], ◌∷◌, length, Ok, Err, ◌≢◌}
+use Rattle.std.specs.Prelude.{◌≡◌, ℕ, ◌+◌, ◌<◌, ◌≤◌, ◌⊎◌, List, [], ◌∷◌, length, Ok, Err, Result, ◌≢◌}
 use Rattle.std.specs.List.{AllByRecursion}
 use Rattle.calculus.specs.declared.entry.Entry.{Entry}
 use Rattle.calculus.specs.declared.node.Node.{Node}
@@ -26,8 +26,7 @@ use Rattle.calculus.specs.Accepted.{Accepted}
 use Rattle.refusals.specs.declared.Question.TheVariants as question
 use Rattle.refusals.specs.declared.Refusal.{Refusal}
 use Rattle.refusals.specs.Refusals.{report_of}
-use Rattle.evaluator.specs.declared.outcome.Closing.{Closing}
-use Rattle.evaluator.specs.declared.outcome.Closing.TheVariants.{Decided, Undecided}
+use Rattle.evaluator.specs.declared.outcome.Decided.{Decided}
 use Rattle.evaluator.specs.declared.outcome.Ran.{Ran}
 use Rattle.evaluator.specs.OneCall.{most_steps, in_run, State, Holding, Started, CloseCall}
 use Rattle.evaluator.specs.Lists.{Call, run_call, look_call, Calls, hosts}
@@ -47,9 +46,9 @@ Quiet (look_call (Ok ns)) = Unit {0}
 Quiet (look_call (Err x)) = Other x
 
 -- `ClosesWith type n e r`: after n steps the run holds e, accepted with this type, and close answers r.
-abbrev pub ClosesWith : ℕ → ℕ → Term → Closing → Type 0
-ClosesWith type n e (Decided records steps number) = Value e × (records ≡ size e) × (steps ≡ n) × (number ≡ type)
-ClosesWith type n e (Undecided x) = (Value e → ⊥) × (x ≡ in_run question.ValueHeld)
+abbrev pub ClosesWith : ℕ → ℕ → Term → Result Decided Refusal → Type 0
+ClosesWith type n e (Ok d) = Value e × (d.records ≡ size e) × (d.steps ≡ n) × (d.type_number ≡ type)
+ClosesWith type n e (Err x) = (Value e → ⊥) × (x ≡ in_run question.ValueHeld)
 
 -- `Follows profile room n e cs e'`: from e after n steps, the calls cs lead to e' with tables of `room` records. Each is
 -- refused exactly for too much fuel or another profile than the accepted one, and otherwise runs to the first cause to stop.
@@ -94,7 +93,7 @@ pub record Safe (rule : Term) (type profile room : ℕ) (cs : List Call) (s : St
   -- a run call that no question refuses made every step up to the first cause to stop
   pub follows : Follows profile room 0 rule cs held
   -- a close there is decided with it if it is a value, and is otherwise undecided with 34
-  pub closes : (r : Closing) → CloseCall s.run s.front r → ClosesWith type (length (hosts cs)) held r
+  pub closes : (r : Result Decided Refusal) → CloseCall s.run s.front r → ClosesWith type (length (hosts cs)) held r
 
 abbrev pub SafeFrom : Term → ℕ → ℕ → ℕ → State → Type 0
 SafeFrom rule type profile room s₀ = (s : State) (cs : List Call) → Calls s₀ cs s → Safe rule type profile room cs s
@@ -117,5 +116,5 @@ pub record Safety : Type 0 where
       → Accepted rule type profile → Started rule type profile room s₀ → SafeFrom rule type profile room s₀
   pub agree : Agree
 
-abbrev pub ClosedRun : Term → ℕ → Meaning → Closing → Type 0
+abbrev pub ClosedRun : Term → ℕ → Meaning → Result Decided Refusal → Type 0
 ClosedRun rule type m r = (k : ℕ) × (e : Term) × Run (steps_under m k) rule e × ClosesWith type k e r

@@ -1,5 +1,8 @@
-// What a run keeps beside its two tables: front, which holds the term, and back, into which the next term is written.
-ghost use Rattle.std.specs.Prelude.{◌≡◌, ◌≤◌, Some, None, MatchOption};
+// What a run keeps beside its two tables: front, which holds the term, and back, into which the next term is written. The
+// tables are the caller's, who lends them to each call, since no call uses the heap; so their length and the term's count are
+// kept here.
+ghost use Rattle.std.specs.Prelude.{◌≡◌, ◌≤◌};
+ghost use Rattle.std.specs.Option.{option_map};
 
 use rewriter::depths::Depths;
 
@@ -41,21 +44,15 @@ pub struct Run {
 impl Run {
     // How many records the term has, or none where the run holds nothing.
     pub fn records(&self) -> Option<usize>
-        ensures value { MatchOption self.now.held (result ≡ None) (λ h. result ≡ Some h.count) }
+        ensures value { result ≡ option_map (λ h. h.count) self.now.held }
     {
-        match self.held {
-            Some(held) => Some(held.count),
-            None => None,
-        }
+        self.held.map(|held| held.count)
     }
 
     // How long its tables are, or none where the run holds nothing.
     pub fn length(&self) -> Option<usize>
-        ensures value { MatchOption self.now.held (result ≡ None) (λ h. result ≡ Some h.length) }
+        ensures value { result ≡ option_map (λ h. h.length) self.now.held }
     {
-        match self.held {
-            Some(held) => Some(held.length),
-            None => None,
-        }
+        self.held.map(|held| held.length)
     }
 }

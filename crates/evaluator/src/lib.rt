@@ -6,7 +6,7 @@ mod evaluate;
 pub mod held;
 pub mod laws;
 pub mod outcome;
-mod refused;
+mod questions;
 pub mod run;
 pub mod start;
 mod tables;

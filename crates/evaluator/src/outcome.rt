@@ -1,6 +1,5 @@
 // What run and close answer.
 use calculus::stop::StopCause;
-use refusals::Refusal;
 
 // A run call that was not refused.
 #[derive(Clone, Copy, PartialEq, Eq, Debug)]
@@ -14,22 +13,10 @@ pub struct Ran {
     pub records: usize,
 }
 
-// Where the loop of steps stops: why, after how many steps, and how many records the term has there.
-#[derive(Clone, Copy)]
-pub(crate) struct Halt {
-    pub(crate) cause: StopCause,
-    pub(crate) made: u32,
-    pub(crate) used: usize,
-}
-
-// How a run ended.
+// A run that ended with a value: how many records the value has, the steps in all, the number of its type.
 #[derive(Clone, Copy, PartialEq, Eq, Debug)]
-pub enum Closing {
-    // the term is a value: its records, the steps in all, the number of its type
-    Decided {
-        records: usize,
-        steps: u32,
-        type_number: u16,
-    },
-    Undecided(Refusal),
+pub struct Decided {
+    pub records: usize,
+    pub steps: u32,
+    pub type_number: u16,
 }

@@ -1,16 +1,15 @@
 // Running: the questions of a call, and then its steps.
 ghost use Rattle.std.specs.Prelude.{◌≡◌, MatchResult};
-ghost use Rattle.evaluator.specs.OneCall.{RunRefused, RunCall};
+ghost use Rattle.evaluator.specs.OneCall.{state_of, RunRefused, RunCall};
 ghost use Rattle.evaluator.specs.Evaluating.{Runnable};
 
 use crate::evaluate::evaluate;
 use crate::held::{Held, MOST_STEPS, Run, Scratch};
 use crate::outcome::Ran;
-use crate::refused::refused;
+use crate::questions::{closed_term, held_in};
 use calculus::node::Node;
 use hosts::host::Host;
-use refusals::{Question, Refusal};
-use rewriter::closed::closed_fault;
+use refusals::{Layer, Question, Refusal};
 
 // Questions 30 to 33.
 fn run_question<H: Host>(
@@ -21,13 +20,11 @@ fn run_question<H: Host>(
     depths: &mut Scratch,
     host: &mut H,
 ) -> Result<Held, Question>
-    ensures value { MatchResult result (λ h. Runnable (H.meaning host.old) fuel (record { run = run.now; front = front.now; back = back.now }) h) (λ q. RunRefused (H.meaning host.old) fuel (record { run = run.now; front = front.now; back = back.now }) q) }
+    ensures value { MatchResult result (λ h. Runnable (H.meaning host.old) fuel (state_of run.now front.now back.now) h) (λ q. RunRefused (H.meaning host.old) fuel (state_of run.now front.now back.now) q) }
     ensures kept { H.meaning host.new ≡ H.meaning host.old }
 {
-    let Some(held) = run.held else {
-        return Err(Question::TermHeld);
-    };
-    if front.len() != held.length || back.len() != held.length {
+    let held = held_in(run, front)?;
+    if back.len() != held.length {
         return Err(Question::TermHeld);
     }
     if fuel > MOST_STEPS - held.steps {
@@ -36,11 +33,8 @@ fn run_question<H: Host>(
     if host.profile() != held.profile {
         return Err(Question::ProfileAccepted);
     }
-    let count = held.count;
-    match closed_fault(&front[0..count], depths) {
-        Some(k) => Err(Question::ClosedTerm { place: k as u16 }),
-        None => Ok(held),
-    }
+    let _term = closed_term(front, held.count, depths)?;
+    Ok(held)
 }
 
 // Runs on with so much fuel, under a host. It puts questions 30 to 33 in order; a no leaves the run and both tables as they
@@ -55,21 +49,16 @@ pub fn run<H: Host>(
     back: &mut [Node],
     host: &mut H,
 ) -> Result<Ran, Refusal>
-    ensures call { RunCall (H.meaning host.old) fuel (record { run = run.old; front = front.old; back = back.old }) result (record { run = run.new; front = front.new; back = back.new }) }
+    ensures call { RunCall (H.meaning host.old) fuel (state_of run.old front.old back.old) result (state_of run.new front.new back.new) }
     ensures kept { H.meaning host.new ≡ H.meaning host.old }
 {
     let mut depths = Scratch::new();
-    let held = match run_question(run, fuel, front, back, &mut depths, host) {
-        Ok(held) => held,
-        Err(question) => return Err(refused(question)),
-    };
+    let mut held = run_question(run, fuel, front, back, &mut depths, host).map_err(
+        |question| Layer::Run.refuse(question),
+    )?;
     let ran = evaluate(fuel, held, front, back, &mut depths, host);
-    run.held = Some(Held {
-        length: held.length,
-        count: ran.records,
-        steps: ran.total,
-        type_number: held.type_number,
-        profile: held.profile,
-    });
+    held.count = ran.records;
+    held.steps = ran.total;
+    run.held = Some(held);
     Ok(ran)
 }

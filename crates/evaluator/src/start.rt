@@ -2,27 +2,19 @@
 ghost use Rattle.std.specs.Prelude.{◌≡◌, ◌-◌, ◌≤◌, false, ◌++◌, length, Ok, Err, MatchResult};
 ghost use Rattle.std.specs.List.{AllByRecursion};
 ghost use Rattle.calculus.specs.Syntax.{Term, flat};
-ghost use Rattle.evaluator.specs.OneCall.{blanks, Narrow, Fits, StartCall, LookCall};
+ghost use Rattle.evaluator.specs.OneCall.{state_of, blanks, Narrow, Fits, StartCall, LookCall};
 ghost use Rattle.evaluator.specs.Safety.{SafeFrom, Agree};
 
 use crate::held::{Held, LONGEST, Run};
-use crate::refused::refused;
+use crate::questions::held_in;
 use crate::tables::blank_rest;
 use crate::token::CloseToken;
 use calculus::node::Node;
 use checker::acceptance::Acceptance;
-use refusals::{Question, Refusal};
+use refusals::{Layer, Refusal};
 
-// The node itself: that its number has 16 bits is known of a node that is passed.
-fn numbered(node: Node) -> Node
-    ensures same { result ≡ node }
-    ensures narrow { Narrow node }
-{
-    node
-}
-
-// Lays the nodes at the front of one table, with blanks behind them, and blanks another. They are copied one by one, so
-// that each is passed and known to have a number of 16 bits.
+// Lays the nodes at the front of one table, with blanks behind them, and blanks another. They are copied one by one, since
+// that a number has 16 bits is known only of a node whose number is read.
 fn lay(nodes: &[Node], front: &mut [Node], back: &mut [Node])
     requires { length nodes.now ≤ length front.old }
     ensures front { front.new ≡ nodes.now ++ blanks (length front.old - length nodes.now) }
@@ -30,7 +22,8 @@ fn lay(nodes: &[Node], front: &mut [Node], back: &mut [Node])
     ensures narrow { AllByRecursion Narrow nodes.now }
 {
     for (i, node) in nodes.iter().enumerate() {
-        front[i] = numbered(*node);
+        let _number = node.number;
+        front[i] = *node;
     }
     blank_rest(front, nodes.len(), back);
 }
@@ -40,8 +33,8 @@ fn lay(nodes: &[Node], front: &mut [Node], back: &mut [Node])
 // nothing. The acceptance may start other runs. For the rule, the one term of the acceptance's nodes: `leaves` says what
 // start leaves, `safe` what holds after every list of calls from there on, and `agree` that two runs of one rule agree.
 pub fn start(acceptance: &Acceptance, front: &mut [Node], back: &mut [Node]) -> (Run, CloseToken)
-    ensures leaves { (rule : Term) → flat rule ≡ acceptance.now.nodes.now → StartCall rule acceptance.now.type_number acceptance.now.profile front.old back.old (record { run = result.0; front = front.new; back = back.new }) }
-    ensures safe { (rule : Term) → flat rule ≡ acceptance.now.nodes.now → Fits rule front.old back.old → SafeFrom rule acceptance.now.type_number acceptance.now.profile (length front.old) (record { run = result.0; front = front.new; back = back.new }) }
+    ensures leaves { (rule : Term) → flat rule ≡ acceptance.now.nodes.now → StartCall rule acceptance.now.type_number acceptance.now.profile front.old back.old (state_of result.0 front.new back.new) }
+    ensures safe { (rule : Term) → flat rule ≡ acceptance.now.nodes.now → Fits rule front.old back.old → SafeFrom rule acceptance.now.type_number acceptance.now.profile (length front.old) (state_of result.0 front.new back.new) }
     ensures agree { Agree }
     ensures token { result.1.spent ≡ false }
 {
@@ -66,12 +59,7 @@ pub fn start(acceptance: &Acceptance, front: &mut [Node], back: &mut [Node]) -> 
 pub fn look<'a>(run: &Run, front: &'a [Node]) -> Result<&'a [Node], Refusal>
     ensures call { MatchResult result (λ ns. LookCall run.now front.now (Ok ns.now)) (λ x. LookCall run.now front.now (Err x)) }
 {
-    let Some(held) = run.held else {
-        return Err(refused(Question::TermHeld));
-    };
-    if front.len() != held.length {
-        return Err(refused(Question::TermHeld));
-    }
+    let held = held_in(run, front).map_err(|question| Layer::Run.refuse(question))?;
     let count = held.count;
-    Ok(&front[0..count])
+    Ok(&front[..count])
 }

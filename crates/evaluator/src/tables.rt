@@ -6,10 +6,11 @@ use calculus::node::Node;
 
 // Copies the first `n` nodes of one table to the front of another.
 pub(crate) fn copy_first(from: &[Node], n: usize, to: &mut [Node])
-    requires { (n ≤ length from.now) × (n ≤ length to.old) }
+    requires from { n ≤ length from.now }
+    requires to { n ≤ length to.old }
     ensures after { to.new ≡ take n from.now ++ drop n to.old }
 {
-    to[0..n].copy_from_slice(&from[0..n]);
+    to[..n].copy_from_slice(&from[..n]);
 }
 
 // Blanks front behind its first `used` nodes, and all of back.

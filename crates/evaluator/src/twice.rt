@@ -6,7 +6,7 @@ ghost use Rattle.evaluator.specs.Lists.{run_call};
 ghost use Rattle.evaluator.specs.Safety.{Quiet, ClosedRun};
 
 use crate::close::close;
-use crate::outcome::{Closing, Ran};
+use crate::outcome::{Decided, Ran};
 use crate::run::run;
 use crate::start::start;
 use calculus::node::Node;
@@ -23,7 +23,7 @@ pub fn run_twice<H: Host>(
     front: &mut [Node],
     back: &mut [Node],
     host: &mut H,
-) -> (Result<Ran, Refusal>, Closing)
+) -> (Result<Ran, Refusal>, Result<Decided, Refusal>)
     ensures quiet { (rule : Term) → flat rule ≡ acceptance.now.nodes.now → Fits rule front.old back.old → Quiet (run_call (H.meaning host.old) fuel result.0) }
     ensures closed { (rule : Term) → flat rule ≡ acceptance.now.nodes.now → Fits rule front.old back.old → ClosedRun rule acceptance.now.type_number (H.meaning host.old) result.1 }
 {

@@ -5,7 +5,7 @@ use calculus::node::Node;
 use checker::acceptance::Acceptance;
 use evaluator::close::close;
 use evaluator::held::Run;
-use evaluator::outcome::{Closing, Ran};
+use evaluator::outcome::{Decided, Ran};
 use evaluator::run::run;
 use evaluator::start::{look, start};
 use hosts::listing::Listing;
@@ -117,14 +117,10 @@ impl Player {
 }
 
 // How a run ended.
-pub fn end_of(closing: Closing) -> End {
+pub fn end_of(closing: Result<Decided, Refusal>) -> End {
     match closing {
-        Closing::Decided {
-            records,
-            steps,
-            type_number,
-        } => End::Decided(records, steps, type_number),
-        Closing::Undecided(refusal) => {
+        Ok(decided) => End::Decided(decided.records, decided.steps, decided.type_number),
+        Err(refusal) => {
             let report = refusal.report();
             End::No(report.number, report.place)
         }

@@ -1,57 +1,34 @@
-use Rattle.std.proofs.Common.{◌≤◌, Err, refl, ◌∙◌, subst, arith}
+use Rattle.std.proofs.Common.{◌≡◌, ◌≤◌, Bool, true, false, refl, ◌∙◌, subst, rules, arith}
+use mathlib.Core.Bool.{not}
+use denote.Enum.Bare.{same_true}
+use Rattle.calculus.specs.contracts.stop.StopCause.{the_type}
+use Rattle.calculus.specs.declared.stop.StopCause.TheVariants as cause
 use Rattle.calculus.specs.Meanings.{Meaning}
-use Rattle.evaluator.specs.OneCall.{State, RunMade, RunCall}
-use Rattle.decider.proofs.Slicing.{slicing_first, slicing_on, sliced_ran, sliced_refused}
+use Rattle.evaluator.specs.OneCall.{State, state_of, RunMade}
+use Rattle.decider.proofs.Slicing.{slicing_first, slicing_on}
 use Rattle.decider.proofs.slices.run_slices.Goals as goal
-use Rattle.decider.proofs.slices.run_slices.Goals.{then-slice-eq0, else-slice-eq0, then-most-left, else-most-left}
+use Rattle.decider.proofs.slices.run_slices.Goals.{then-slice-eq0, else-slice-eq0}
 
-pub slices-init : goal.slices-init
-slices-init g c = (
+not_false : (b : Bool) → false ≡ not b → b ≡ true
+not_false true e = refl
+not_false false e = e
+
+pub loop-ran-init : goal.loop-ran-init
+loop-ran-init g c = (
   refl,
-  slicing_first (g.H.Host.meaning c.args.host.now) c.args.fuel (record { run = c.args.held.now; front = c.args.front.now; back = c.args.back.now }),
+  slicing_first (g.H.Host.meaning c.args.host.now) c.args.fuel.total (state_of c.args.held.now c.args.front.now c.args.back.now),
   λ h. elim c.if-slice-eq0.branch [ then-slice-eq0 w ↦ omega (arith, w.most-is) | else-slice-eq0 w ↦ omega (arith, w.most-is, w.if-slice-eq0.false) ],
 )
 
-pub slices-preserved : goal.slices-preserved
-slices-preserved g c =
-    let m = g.H.Host.meaning c.args.host.now in
-    let most : c.if-most-left.asked ≤ c.slices.left =
-    elim c.if-most-left.branch [ then-most-left w ↦ omega (arith, w.asked-is, w.if-most-left.true) | else-most-left w ↦ omega (arith, w.asked-is) ] in
-    let s : State = record { run = c.slices.held; front = c.slices.front; back = c.slices.back } in
-    let s' : State = record { run = c.run.new.run; front = c.run.new.front; back = c.run.new.back } in
-    let made = subst (λ (n : Meaning). RunMade n c.if-most-left.asked s c.in-Ok.ran s') c.slices.invariant.0 c.in-Ok.ensures.call in (
-      c.in-Ok.ensures.kept ∙ c.slices.invariant.0,
-      slicing_on c.slices.invariant.1 (g.H.Host.lawful c.args.host.now) c.if-most-left.asked most made c.in-Spent.is,
-      λ h. c.slices.invariant.2 (omega arith),
+pub loop-ran-preserved : goal.loop-ran-preserved
+loop-ran-preserved g c =
+    let asked = c.min-asked.result in
+    let most : asked ≤ c.loop-ran.left = omega (arith, c.min-asked.ensures) in
+    let s : State = state_of c.loop-ran.held c.loop-ran.front c.loop-ran.back in
+    let s' : State = state_of c.run.new.run c.run.new.front c.run.new.back in
+    let made = subst (λ (n : Meaning). RunMade n asked s c.in_ok-ran.ran s') c.loop-ran.invariant.0 c.in_ok-ran.ensures.call in
+    let spent : c.in_ok-ran.ran.cause ≡ cause.Spent = same_true the_type (search rules) _ _ (not_false _ c.if-ne.ensures) in (
+      c.in_ok-ran.ensures.kept ∙ c.loop-ran.invariant.0,
+      slicing_on c.loop-ran.invariant.1 (g.H.Host.lawful c.args.host.now) asked most made spent,
+      λ h. c.loop-ran.invariant.2 (omega arith),
     )
-
-pub slices-smaller : goal.slices-smaller
-slices-smaller g c =
-    elim c.if-most-left.branch [
-      | then-most-left w ↦ omega (arith, w.asked-is, w.if-most-left.true, c.slices.invariant.2 (omega (arith, w.if-most-left.true)))
-      | else-most-left w ↦ absurd (c.if-asked-left.false w.asked-is)
-    ]
-
-pub returns-in-Err : goal.returns-in-Err
-returns-in-Err g c =
-    let most : c.if-most-left.asked ≤ c.slices.left =
-    elim c.if-most-left.branch [ then-most-left w ↦ omega (arith, w.asked-is, w.if-most-left.true) | else-most-left w ↦ omega (arith, w.asked-is) ] in
-    let s : State = record { run = c.slices.held; front = c.slices.front; back = c.slices.back } in
-    let s' : State = record { run = c.run.new.run; front = c.run.new.front; back = c.run.new.back } in
-    let refused = subst (λ (n : Meaning). RunCall n c.if-most-left.asked s (Err c.in-Err.refusal) s') c.slices.invariant.0 c.in-Err.ensures.call in
-    record {
-      sliced = sliced_refused c.slices.invariant.1 (g.H.Host.lawful c.args.host.now) c.if-most-left.asked most refused;
-      kept = c.in-Err.ensures.kept ∙ c.slices.invariant.0;
-    }
-
-pub returns-then-asked-left : goal.returns-then-asked-left
-returns-then-asked-left g c =
-    let most : c.if-most-left.asked ≤ c.slices.left =
-    elim c.if-most-left.branch [ then-most-left w ↦ omega (arith, w.asked-is, w.if-most-left.true) | else-most-left w ↦ omega (arith, w.asked-is) ] in
-    let s : State = record { run = c.slices.held; front = c.slices.front; back = c.slices.back } in
-    let s' : State = record { run = c.run.new.run; front = c.run.new.front; back = c.run.new.back } in
-    let made = subst (λ (n : Meaning). RunMade n c.if-most-left.asked s c.in-Ok.ran s') c.slices.invariant.0 c.in-Ok.ensures.call in
-    record {
-      sliced = sliced_ran c.slices.invariant.1 (g.H.Host.lawful c.args.host.now) c.if-most-left.asked most made (λ _. c.if-asked-left.true);
-      kept = c.in-Ok.ensures.kept ∙ c.slices.invariant.0;
-    }

@@ -1,13 +1,14 @@
 use Rattle.std.proofs.Common.{◌≡◌, ◌<◌}
+use Rattle.evaluator.specs.OneCall.{state_of}
 use Rattle.decider.proofs.Slicing.{Slicing}
 use Rattle.decider.proofs.slices.run_slices.Given as goal
 
-abbrev pub invariant-slices : goal.invariant-slices
-invariant-slices g l =
+abbrev pub invariant-loop-ran : goal.invariant-loop-ran
+invariant-loop-ran g l =
     (g.H.Host.meaning l.host ≡ g.H.Host.meaning l.initial.host)
-    × Slicing (g.H.Host.meaning l.initial.host) l.fuel l.left
-    (record { run = l.initial.held; front = l.initial.front; back = l.initial.back }) (record { run = l.held; front = l.front; back = l.back })
+    × Slicing (g.H.Host.meaning l.initial.host) l.total l.left
+    (state_of l.initial.held l.initial.front l.initial.back) (state_of l.held l.front l.back)
     × (0 < l.left → 0 < l.most)
 
-abbrev pub decreases-slices : goal.decreases-slices
-decreases-slices g l = l.left
+abbrev pub decreases-loop-ran : goal.decreases-loop-ran
+decreases-loop-ran g l = l.left

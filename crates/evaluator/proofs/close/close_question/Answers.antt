@@ -1,55 +1,28 @@
-use Rattle.std.proofs.Common.{◌≡◌, List, ap, ◌∙◌, subst, arith}
-use Rattle.calculus.specs.declared.node.Node.{Node}
-use Rattle.calculus.proofs.Options.{same_value}
-use Rattle.rewriter.specs.ClosedTerms.{FirstClosedFault}
-use Rattle.evaluator.specs.declared.held.Held.{Held}
-use Rattle.evaluator.specs.OneCall.{nothing_held, not_closed, not_value}
-use Rattle.evaluator.proofs.Halts.{part}
+use Rattle.std.proofs.Common.{sym, ◌∙◌, subst, inl, inr}
+use Rattle.evaluator.specs.OneCall.{CloseRefused, nothing_held, not_closed, not_value}
+use Rattle.evaluator.proofs.Halts.{no_value}
+use Rattle.evaluator.proofs.Results.{at_exit}
 use Rattle.evaluator.proofs.close.close_question.Goals as goal
 
-pub returns-in_default : goal.returns-in_default
-returns-in_default c = record { value = nothing_held (λ h f. c.in_default.not-Some h f.0) }
-
-pub returns-then-front-held : goal.returns-then-front-held
-returns-then-front-held c = record {
-  value = nothing_held (λ h f.
-      let same : c.in-Some.held ≡ h = same_value c.in-Some.is f.0 in
-      omega (arith, ap (λ (x : Held). x.length) same, f.1, c.if-front-held.true));
-}
-
-pub returns-in-Some-closed_fault : goal.returns-in-Some-closed_fault
-returns-in-Some-closed_fault c = record {
-  value = not_closed (c.in-Some.is, c.if-front-held.false)
-      (subst (λ (l : List Node). FirstClosedFault l c.in-Some-closed_fault.k) (part c.args.front.now c.in-Some.held.count)
-      c.in-Some-closed_fault.ensures.judged);
-}
-
-pub returns-in-Value : goal.returns-in-Value
-returns-in-Value c =
-    let front = c.args.front.now in
-    let count = c.in-Some.held.count in
-    let o = c.in_default-closed_fault.ensures.judged in
+pub returns-in_err-held : goal.returns-in_err-held
+returns-in_err-held c =
+    let (is, unfit) = c.in_err-held.ensures.unfit in
     record {
-      value = record {
-        table = (c.in-Some.is, c.if-front-held.false);
-        term = o.0;
-        reads = (o.1 ∙ part front count, o.2);
-        value = c.in-Value.ensures.found o.0 o.1;
-      };
+      value = at_exit _ _ _ _ c.from_residual.ensures.1 (subst (CloseRefused c.args.run.now c.args.front.now) (sym is) (nothing_held unfit));
+    }
+
+pub returns-in_err-term : goal.returns-in_err-term
+returns-in_err-term c =
+    let (k, is, fault) = c.in_err-term.ensures.fault in
+    record {
+      value = at_exit _ _ _ _ c.from_residual-in_err-term.ensures.1
+          (subst (CloseRefused c.args.run.now c.args.front.now) (sym is) (not_closed c.in_ok-held.ensures.fits fault));
     }
 
 pub returns-in-Stuck : goal.returns-in-Stuck
 returns-in-Stuck c =
-    let o = c.in_default-closed_fault.ensures.judged in
+    let (e, is, closed) = c.in_ok-term.ensures.closed in
     record {
-      value = not_value (c.in-Some.is, c.if-front-held.false) (o.1 ∙ part c.args.front.now c.in-Some.held.count, o.2)
-          (c.in-Stuck.ensures.found o.0 o.1).0;
-    }
-
-pub returns-in-Ready : goal.returns-in-Ready
-returns-in-Ready c =
-    let o = c.in_default-closed_fault.ensures.judged in
-    record {
-      value = not_value (c.in-Some.is, c.if-front-held.false) (o.1 ∙ part c.args.front.now c.in-Some.held.count, o.2)
-          (c.in-Ready.ensures.found.1 o.0 o.1).0;
+      value = not_value c.in_ok-held.ensures.fits (is, closed)
+          (no_value _ _ _ c.find_redex.ensures.found (λ v. elim c.in-Stuck.is [ inl s ↦ (cc) | inr s ↦ (let is = s.1 in cc) ]) e (is ∙ sym c.in_ok-term.ensures.term));
     }

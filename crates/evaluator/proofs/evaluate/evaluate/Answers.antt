@@ -5,9 +5,9 @@ use Rattle.evaluator.proofs.evaluate.evaluate.Goals as goal
 
 pub returns : goal.returns
 returns g c =
-    let room : length c.step_on-cause.new.front ≡ c.args.held.length = c.step_on-cause.auto.front ∙ c.requires.front in
+    let room : length c.step_on-ran.new.front ≡ c.args.held.length = c.step_on-ran.auto.front ∙ c.requires.front in
     record {
-      evaluated = evaluated c.args.held c.step_on-cause.result c.step_on-cause.ensures.halted c.requires.front room _ _
-          c.blank_rest.ensures.front (c.blank_rest.ensures.back ∙ ap blanks (c.step_on-cause.auto.back ∙ c.requires.back));
-      kept = c.step_on-cause.ensures.kept;
+      evaluated = evaluated c.args.held c.step_on-ran.result c.step_on-ran.ensures.halted c.requires.front room _ _
+          c.blank_rest.ensures.front (c.blank_rest.ensures.back ∙ ap blanks (c.step_on-ran.auto.back ∙ c.requires.back));
+      kept = c.step_on-ran.ensures.kept;
     }

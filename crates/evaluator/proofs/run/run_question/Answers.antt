@@ -1,43 +1,35 @@
-use Rattle.std.proofs.Common.{◌≡◌, List, sym, refl, ap, ◌∙◌, subst, arith}
-use Rattle.calculus.specs.declared.node.Node.{Node}
+use Rattle.std.proofs.Common.{◌≡◌, sym, ap, ◌∙◌, subst, arith}
 use Rattle.calculus.proofs.Options.{same_value}
-use Rattle.rewriter.specs.ClosedTerms.{FirstClosedFault}
 use Rattle.evaluator.specs.declared.held.Held.{Held}
-use Rattle.evaluator.specs.OneCall.{no_term, no_fuel, no_profile, no_closed}
-use Rattle.evaluator.proofs.Halts.{part}
+use Rattle.evaluator.specs.OneCall.{state_of, RunRefused, no_term, no_fuel, no_profile, no_closed}
+use Rattle.evaluator.proofs.Results.{at_exit}
 use Rattle.evaluator.proofs.run.run_question.Goals as goal
 
-pub returns-in_default : goal.returns-in_default
-returns-in_default g c = record { value = no_term (λ h f. c.in_default.not-Some h f.0.0); kept = refl }
+pub returns-in_err-held-clause-value : goal.returns-in_err-held-clause-value
+returns-in_err-held-clause-value g c =
+    let (is, unfit) = c.in_err-held.ensures.unfit in
+    let m = g.H.Host.meaning c.args.host.now in
+    at_exit _ _ _ _ c.from_residual.ensures.1
+    (subst (RunRefused m c.args.fuel (state_of c.args.run.now c.args.front.now c.args.back.now)) (sym is) (no_term (λ h f. unfit h f.0)))
 
-pub returns-then-front-held : goal.returns-then-front-held
-returns-then-front-held g c = record {
-  value = no_term (λ h f.
-      let same : c.in-Some.held ≡ h = same_value c.in-Some.is f.0.0 in
-      omega (arith, ap (λ (x : Held). x.length) same, f.0.1, f.1, c.then-front-held.either));
-  kept = refl;
-}
+pub returns-then-back-held-clause-value : goal.returns-then-back-held-clause-value
+returns-then-back-held-clause-value g c =
+    no_term (λ h f.
+    let same : c.in_ok-held.held ≡ h = same_value c.in_ok-held.ensures.fits.0 f.0.0 in
+    omega (arith, ap (λ (x : Held). x.length) same, f.1, c.if-back-held.true))
 
-pub returns-then-fuel-held : goal.returns-then-fuel-held
-returns-then-fuel-held g c = record {
-  value = no_fuel ((c.in-Some.is, c.if-front-held.false), c.if-back-held.false) (λ h. omega (arith, h, c.if-fuel-held.true));
-  kept = refl;
-}
+pub returns-then-fuel-held-clause-value : goal.returns-then-fuel-held-clause-value
+returns-then-fuel-held-clause-value g c =
+    no_fuel (c.in_ok-held.ensures.fits, c.if-back-held.false) (λ h. omega (arith, h, c.if-fuel-held.true))
 
-pub returns-then-profile-held : goal.returns-then-profile-held
-returns-then-profile-held g c = record {
-  value = no_profile ((c.in-Some.is, c.if-front-held.false), c.if-back-held.false) c.if-fuel-held.false
-      (λ h. c.if-profile-held.true (c.profile.ensures.value ∙ h));
-  kept = c.profile.ensures.kept;
-}
+pub returns-then-profile-held-clause-value : goal.returns-then-profile-held-clause-value
+returns-then-profile-held-clause-value g c =
+    no_profile (c.in_ok-held.ensures.fits, c.if-back-held.false) c.if-fuel-held.false (λ h. c.if-profile-held.true (c.profile.ensures.value ∙ h))
 
-pub returns-in-Some-closed_fault : goal.returns-in-Some-closed_fault
-returns-in-Some-closed_fault g c =
-    let front = c.args.front.now in
-    record {
-      value = no_closed ((c.in-Some.is, c.if-front-held.false), c.if-back-held.false) c.if-fuel-held.false
-          (sym c.profile.ensures.value ∙ c.if-profile-held.false)
-          (subst (λ (l : List Node). FirstClosedFault l c.in-Some-closed_fault.k) (part front c.in-Some.held.count)
-          c.in-Some-closed_fault.ensures.judged);
-      kept = c.profile.ensures.kept;
-    }
+pub returns-in_err-_term-clause-value : goal.returns-in_err-_term-clause-value
+returns-in_err-_term-clause-value g c =
+    let (k, is, fault) = c.in_err-_term.ensures.fault in
+    let m = g.H.Host.meaning c.args.host.now in
+    at_exit _ _ _ _ c.from_residual-in_err-_term.ensures.1
+    (subst (RunRefused m c.args.fuel (state_of c.args.run.now c.args.front.now c.args.back.now)) (sym is)
+    (no_closed (c.in_ok-held.ensures.fits, c.if-back-held.false) c.if-fuel-held.false (sym c.profile.ensures.value ∙ c.if-profile-held.false) fault))

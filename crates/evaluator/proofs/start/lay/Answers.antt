@@ -12,11 +12,11 @@ loop-i-preserved c =
     let node = c.index-nodes-i.result in
     let room : i < length c.loop-i.front = omega arith in (
       length-set _ _ _ ∙ c.loop-i.invariant.0,
-      take_more_set _ _ _ room ∙ ap (λ l. l ++ (c.numbered.result ∷ [])) c.loop-i.invariant.1
-          ∙ ap (λ n. take i nodes ++ (n ∷ [])) (c.numbered.ensures.same ∙ c.index-nodes-i.is)
+      take_more_set _ _ _ room ∙ ap (λ l. l ++ (node ∷ [])) c.loop-i.invariant.1
+          ∙ ap (λ n. take i nodes ++ (n ∷ [])) c.index-nodes-i.is
           ∙ sym (take_more nodes i node c.loop-i-test.true),
       All-more Narrow nodes i node c.loop-i-test.true c.loop-i.invariant.2
-          (subst Narrow c.index-nodes-i.is c.numbered.ensures.narrow),
+          (subst Narrow c.index-nodes-i.is (omega arith)),
     )
 
 pub returns : goal.returns
