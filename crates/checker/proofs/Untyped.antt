@@ -4,7 +4,6 @@ use Rattle.std.proofs.lemmas.Option.{slice_get_past}
 use Rattle.refusals.specs.declared.Question.{Question}
 use Rattle.calculus.specs.Syntax.{Ty, fun, sum, Term}
 use Rattle.calculus.specs.Typing.{Typed, typing_var, typing_s, typing_rec, typing_abs, typing_fapp, typing_pair, typing_fst, typing_snd, typing_abort, typing_inl, typing_inr, typing_case, typing_query}
-use Rattle.calculus.proofs.Options.{none_some}
 use Rattle.calculus.proofs.OneType.{one_type}
 use Rattle.checker.specs.Derivations.{Reached, here, in_s, in_rec_1, in_rec_2, in_rec_3, in_abs, in_fapp_1, in_fapp_2, in_pair_1, in_pair_2, in_fst, in_snd, in_abort, in_inl, in_inr, in_case_1, in_case_2, in_case_3, in_query, Fault, unbound, unknown, s_no_nat, rec_no_nat, query_no_nat, abort_no_void, fapp_no_function, fst_no_product, snd_no_product, case_no_sum, argument_differs, step_differs, branches_differ, step_no_value, Untyped}
 
@@ -23,8 +22,8 @@ module _ (ρ : ℕ → Ty) (profile : ℕ) where
   rebound {Γ} {e} {τ = τ} p d = subst (λ (γ : Ty). Typed ρ profile (γ ∷ Γ) e τ) p d
 
   fault_denies : {Γ : List Ty} {k : ℕ} {e : Term} {q : Question} {τ : Ty} → Fault ρ profile Γ k e q → Typed ρ profile Γ e τ → ⊥
-  fault_denies (unbound {i = i} h) (typing_var {Γ = Γ} p) = none_some (sym (slice_get_past Γ i h) ∙ p)
-  fault_denies (unknown p) (typing_query s d) = none_some (sym p ∙ s)
+  fault_denies (unbound {i = i} h) (typing_var {Γ = Γ} p) = cc (sym (slice_get_past Γ i h) ∙ p)
+  fault_denies (unknown p) (typing_query s d) = cc (sym p ∙ s)
   fault_denies (s_no_nat d n) (typing_s d') = n (one_type ρ profile d d')
   fault_denies (rec_no_nat d n) (typing_rec d' a b v) = n (one_type ρ profile d d')
   fault_denies (query_no_nat p d n) (typing_query s d') = n (one_type ρ profile d d')

@@ -17,7 +17,6 @@ use Rattle.calculus.specs.Meanings.{Meaning, Lawful}
 use Rattle.calculus.specs.Typing.{Typed}
 use Rattle.calculus.specs.Steps.{Step}
 use Rattle.calculus.specs.Runs.{Run, steps_under, Cause}
-use Rattle.calculus.proofs.Options.{none_some}
 use Rattle.evaluator.specs.declared.held.Held.{Held}
 use Rattle.evaluator.specs.declared.outcome.Decided.{Decided}
 use Rattle.evaluator.specs.declared.outcome.Ran.{Ran}
@@ -55,12 +54,12 @@ fits_or_not rule front back =
 
 module _ (rule : Term) (type profile : ℕ) (front back : List Node) (s : State) (c : StartCall rule type profile front back s) where
   pub nothing_unfit : s.run.held ≡ None → Fits rule front back → ⊥
-  nothing_unfit e f = none_some (sym e ∙ (c.fit f).holding.run)
+  nothing_unfit e f = cc (sym e ∙ (c.fit f).holding.run)
 
   pub something_fits : (h : Held) → s.run.held ≡ Some h → Fits rule front back
   something_fits h e = elim (fits_or_not rule front back) [
     | inl f ↦ f
-    | inr n ↦ none_some (sym (ap (λ (x : State). x.run.held) (c.unfit n)) ∙ e)
+    | inr n ↦ cc (sym (ap (λ (x : State). x.run.held) (c.unfit n)) ∙ e)
   ]
 
 module _ (m : Meaning) (fuel : ℕ) (rule : Term) (type profile : ℕ) (front back : List Node) (s₀ : State)

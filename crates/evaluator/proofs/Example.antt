@@ -9,7 +9,6 @@ use Rattle.calculus.specs.Typing.{typing_z, typing_s, typing_case, typing_query}
 use Rattle.calculus.specs.Steps.{Step, eval_case, eval_caser, eval_answer}
 use Rattle.calculus.specs.Accepted.{Accepted}
 use Rattle.calculus.specs.Examples.{empty_listing}
-use Rattle.calculus.proofs.Options.{none_some}
 use Rattle.calculus.proofs.EmptyListing.{question_past, empty_lawful}
 use Rattle.calculus.proofs.Walks.{stands, walks, stopped_value, stopped_spent}
 use Rattle.types.proofs.Laid.{laid_given}
@@ -46,8 +45,8 @@ silent_lawful = record {
   profile_fits = lit< tt;
   digits_low = silent_digits;
   missing = λ q n. (λ p. inl (silent_shapes q), λ p. refl);
-  shaped = λ q n r e. none_some e;
-  bounded = λ q n r e. none_some e;
+  shaped = λ q n r e. cc;
+  bounded = λ q n r e. cc;
 }
 
 rule_accepted : Accepted rule 0 0x4231

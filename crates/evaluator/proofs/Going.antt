@@ -10,7 +10,6 @@ use Rattle.calculus.specs.Steps.{Step}
 use Rattle.calculus.specs.Infer.{value?}
 use Rattle.calculus.specs.Next.{next}
 use Rattle.calculus.specs.Accepted.{Accepted}
-use Rattle.calculus.proofs.Options.{none_some}
 use Rattle.calculus.proofs.Values.{value_true, true_value}
 use Rattle.calculus.proofs.OneNext.{value_rests, one_next}
 use Rattle.calculus.proofs.Next.{next_step, step_next}
@@ -29,7 +28,7 @@ module _ (m : Meaning) (e : Term) (stuck : (Value e → ⊥) → ((w : Term) →
   no_value p v = false≢true (sym p ∙ value_true v)
 
   goes_next : value? e ≡ false → (o : Option Term) → next m e ≡ o → Goes m e
-  goes_next p None q = absurd (stuck (no_value p) (λ w s. none_some (sym q ∙ step_next m s)))
+  goes_next p None q = absurd (stuck (no_value p) (λ w s. cc (sym q ∙ step_next m s)))
   goes_next p (Some w) q = let s = next_step m e w q in inr (no_value p, (w, s, λ w' s'. one_next m s' s))
 
   goes_test : (b : Bool) → value? e ≡ b → Goes m e

@@ -6,7 +6,6 @@ use Rattle.calculus.specs.Syntax.{Ty, Term, VA, ZE, SU, RE, LA, AP, TR, PA, FS, 
 use Rattle.calculus.specs.declared.answer.Shape.{Shape}
 use Rattle.calculus.specs.Meanings.{digit, digit_shape, question_shape}
 use Rattle.calculus.specs.Typing.{TypesBelow, Typed, typing_var, typing_z, typing_s, typing_rec, typing_abs, typing_fapp, typing_null, typing_pair, typing_fst, typing_snd, typing_abort, typing_inl, typing_inr, typing_case, typing_query}
-use Rattle.calculus.proofs.Options.{none_some}
 use Rattle.calculus.proofs.TypedScoped.{typed_scoped}
 use Rattle.terms.specs.Ranges.{AllInRange}
 use Rattle.rewriter.specs.ClosedTerms.{any_type, ClosedTerm}
@@ -14,7 +13,7 @@ use Rattle.evaluator.specs.OneCall.{Narrow}
 
 known_go : (q : ℕ) (o : Option Shape) (s : Shape) (b : Bool) → ltb q 8 ≡ b → cond b o None ≡ Some s → q < 8
 known_go q o s true p e = ltb-true q 8 p
-known_go q o s false p e = none_some e
+known_go q o s false p e = cc
 
 -- a question of a profile is below 8
 known_below : (p q : ℕ) (s : Shape) → question_shape p q ≡ Some s → q < 8

@@ -9,7 +9,7 @@ use Rattle.std.proofs.lemmas.Option.{slice_get-get_or}
 use Rattle.std.proofs.lemmas.Bool.{cases_eq}
 use Rattle.refusals.specs.declared.Question.{Question}
 use Rattle.refusals.specs.declared.Question.TheVariants.{LineLegal, LineNew}
-use Rattle.calculus.proofs.Options.{none_some, same_value}
+use Rattle.calculus.proofs.Options.{same_value}
 use Rattle.types.specs.First.{Before, First}
 use Rattle.hosts.specs.declared.line.Line.{Line}
 use Rattle.hosts.specs.declared.line.Asked.{Asked}
@@ -29,7 +29,7 @@ line_none k (l ∷ ls) b =
 
 line_at : (k : Asked) (ls : List Line) (i : ℕ) (l : Line) → slice_get ls i ≡ Some l → line_has k l ≡ true
     → Before (line_has k) ls i → Some l ≡ line_for_lem k ls
-line_at k [] i l e t b = none_some e
+line_at k [] i l e t b = cc
 line_at k (m ∷ ls) zero l e t b =
     let f : m ≡ l = cc in sym (ap (λ x. cond x (Some m) (line_for_lem k ls)) (ap (line_has k) f ∙ t) ∙ e)
 line_at k (m ∷ ls) (suc i) l e t b =
@@ -112,5 +112,5 @@ pub empty_legal : LegalSheet 0 []
 empty_legal = record {
   few = lit≤ tt;
   digits_low = λ k h. subst (λ n. n % 16 ≤ 4) (sym (zero-div (16 ^ k))) (lit≤ tt);
-  lines_legal = λ k l h e. none_some e;
+  lines_legal = λ k l h e. cc;
 }

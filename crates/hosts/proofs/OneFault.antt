@@ -5,7 +5,7 @@ use Rattle.std.proofs.lemmas.Option.{slice_get_past}
 use Rattle.std.proofs.lemmas.Bool.{both_ways, cases_lt, cases_order}
 use Rattle.refusals.specs.declared.Question.{Question}
 use Rattle.refusals.specs.declared.Question.TheVariants.{ProfileDigit, LineLegal, LineNew}
-use Rattle.calculus.proofs.Options.{none_some, same_value}
+use Rattle.calculus.proofs.Options.{same_value}
 use Rattle.hosts.specs.declared.line.Line.{Line}
 use Rattle.hosts.specs.Lines.{legal_line}
 use Rattle.hosts.specs.Sheets.{LegalBelow, LegalSheet, LineFault, illegal, again, SheetFault, many_lines, high_digit, at_line, ExactFault}
@@ -13,7 +13,7 @@ use Rattle.hosts.specs.Sheets.{LegalBelow, LegalSheet, LineFault, illegal, again
 module _ (p : ℕ) (ls : List Line) where
   within : (i : ℕ) (l : Line) → slice_get ls i ≡ Some l → i < length ls
   within i l e =
-      ⊎_elim (λ (h : i < length ls). h) (λ (h : length ls ≤ i). none_some (sym (slice_get_past ls i h) ∙ e)) (cases_lt i (length ls))
+      ⊎_elim (λ (h : i < length ls). h) (λ (h : length ls ≤ i). cc (sym (slice_get_past ls i h) ∙ e)) (cases_lt i (length ls))
 
   -- a line at fault: its place, and the question by its own test
   record At (q : Question) : Type 0 where

@@ -12,7 +12,7 @@ use Rattle.calculus.specs.declared.answer.Shape.TheVariants as shape
 use Rattle.calculus.specs.Meanings.{Lawful, largest_number, largest_asked, question_shape, answer_shape, Bounded}
 use Rattle.calculus.specs.Examples.{empty_answers, empty_listing}
 use Rattle.calculus.proofs.EmptyListing.{empty_lawful}
-use Rattle.calculus.proofs.Options.{none_some, some_injective, cond_some, mapped_some}
+use Rattle.calculus.proofs.Options.{some_injective, cond_some, mapped_some}
 use Rattle.hosts.specs.declared.version.Version.{Version}
 use Rattle.hosts.specs.Listed.{listed, listed_answers, most_versions, version_age, version_gone, version_name}
 
@@ -42,7 +42,7 @@ name_bounded (Some v) = (v.line_fits, v.patch_fits)
 
 none_alike : (o o' : Option Answer) → option_map answer_shape o ≡ option_map answer_shape o' → o ≡ None → o' ≡ None
 none_alike o None e p = refl
-none_alike o (Some r) e p = none_some (sym (ap (option_map answer_shape) p) ∙ e)
+none_alike o (Some r) e p = cc (sym (ap (option_map answer_shape) p) ∙ e)
 
 pub listed_four : (vs : List Version) (today q n : ℕ) → listed_answers vs today (suc (suc (suc (suc q)))) n ≡ None
 listed_four vs today q n =
@@ -84,7 +84,7 @@ module _ (vs : List Version) (today : ℕ) (few : length vs ≤ most_versions) w
   answers_bounded (suc zero) n r p = subst Bounded (some_injective p) (age_bounded today (slice_get vs n))
   answers_bounded (suc (suc zero)) n r p = subst Bounded (some_injective p) (gone_bounded today (slice_get vs n))
   answers_bounded (suc (suc (suc zero))) n r p = subst Bounded (some_injective p) (name_bounded (slice_get vs n))
-  answers_bounded (suc (suc (suc (suc q)))) n r p = none_some (sym (listed_four vs today q n) ∙ p)
+  answers_bounded (suc (suc (suc (suc q)))) n r p = cc (sym (listed_four vs today q n) ∙ p)
 
   pub listed_lawful : Lawful (listed vs today)
   listed_lawful = record {

@@ -13,7 +13,7 @@ use Rattle.calculus.specs.declared.answer.Answer.TheVariants as answer
 use Rattle.calculus.specs.declared.answer.Shape.{Shape}
 use Rattle.calculus.specs.declared.answer.Shape.TheVariants as shape
 use Rattle.calculus.specs.Meanings.{Lawful, question_shape, answer_shape, Bounded, largest_number, largest_asked}
-use Rattle.calculus.proofs.Options.{none_some, some_injective, cond_some}
+use Rattle.calculus.proofs.Options.{some_injective, cond_some}
 use Rattle.hosts.specs.declared.line.Line.{Line}
 use Rattle.hosts.specs.declared.line.Asked.{Asked}
 use Rattle.hosts.specs.Lines.{line_has, shape_legal, legal, legal_line, shape_answer, line_for_lem}
@@ -46,25 +46,25 @@ zeros_bounded shape.Pair = (lit≤ tt, lit≤ tt)
 
 -- an answer in a shape has it, and there is one exactly in a shape
 answer_shaped : (s : Option Shape) (l : Option Line) (r : Answer) → line_answer s l ≡ Some r → s ≡ Some (answer_shape r)
-answer_shaped None None r p = none_some p
-answer_shaped None (Some l) r p = none_some p
+answer_shaped None None r p = cc
+answer_shaped None (Some l) r p = cc
 answer_shaped (Some s) None r p = ap Some (sym (in_shape s 0 0) ∙ ap answer_shape (some_injective p))
 answer_shaped (Some s) (Some l) r p = ap Some (sym (in_shape s l.a l.b) ∙ ap answer_shape (some_injective p))
 
 shape_missing : (s : Option Shape) (l : Option Line) → line_answer s l ≡ None → s ≡ None
 shape_missing None l p = refl
-shape_missing (Some s) None p = none_some (sym p)
-shape_missing (Some s) (Some l) p = none_some (sym p)
+shape_missing (Some s) None p = cc
+shape_missing (Some s) (Some l) p = cc
 
 answer_missing : (s : Option Shape) (l : Option Line) → s ≡ None → line_answer s l ≡ None
 answer_missing None None p = refl
 answer_missing None (Some l) p = refl
-answer_missing (Some s) l p = none_some (sym p)
+answer_missing (Some s) l p = cc
 
 -- the line for a question and a number is one of the lines, and is for them
 line_found : (k : Asked) (ls : List Line) (l : Line) → line_for_lem k ls ≡ Some l
     → ((i : ℕ) × (i < length ls) × (slice_get ls i ≡ Some l)) × (line_has k l ≡ true)
-line_found k [] l p = none_some p
+line_found k [] l p = cc
 line_found k (m ∷ ls) l p =
     ⊎_elim
     (λ (e : line_has k m ≡ true).
@@ -97,8 +97,8 @@ module _ (p : ℕ) (ls : List Line) (fits : p < 2 ^ 32) (laws : ∥ LegalSheet p
 
   by_line : (s : Option Shape) (l : Option Line) (r : Answer) → line_answer s l ≡ Some r
       → ((m : Line) → l ≡ Some m → legal s m.a m.b ≡ true) → Bounded r
-  by_line None None r e h = none_some e
-  by_line None (Some l) r e h = none_some e
+  by_line None None r e h = cc
+  by_line None (Some l) r e h = cc
   by_line (Some s) None r e h = subst Bounded (some_injective e) (zeros_bounded s)
   by_line (Some s) (Some l) r e h = subst Bounded (some_injective e) (legal_bounded s l.a l.b (h l refl))
 

@@ -12,7 +12,6 @@ use Rattle.calculus.specs.declared.answer.Shape.{Shape}
 use Rattle.calculus.specs.Meanings.{Meaning, LawfulUnder, question_shape, largest_asked, reply}
 use Rattle.calculus.specs.Steps.{Step, eval_fapp_left, eval_fapp_right, eval_beta, eval_rec_scrut, eval_rec_z, eval_rec_s, eval_fst, eval_snd, eval_fst_val, eval_snd_val, eval_abort, eval_case, eval_casel, eval_caser, eval_query, eval_answer}
 use Rattle.calculus.specs.Next.{number?}
-use Rattle.calculus.proofs.Options.{none_some}
 use Rattle.calculus.proofs.OneNext.{value_rests}
 use Rattle.calculus.proofs.Values.{number_numeral, numeral_number}
 use Rattle.calculus.proofs.Progress.{answered}
@@ -139,7 +138,7 @@ module _ (profile : ℕ) where
       → (question_shape profile q ≡ None) ⊎ (largest_asked < n) → m.answer q n ≡ Some r → ⊥
   unanswered m l q n r h a =
       let h' : (question_shape m.profile q ≡ None) ⊎ (largest_asked < n) = rw l.1 h in
-      none_some (sym ((l.0.missing q n).1 h') ∙ a)
+      cc (sym ((l.0.missing q n).1 h') ∙ a)
 
   numbers_agree : {e : Term} {n k : ℕ} → number? e ≡ Some n → e ≡ numeral k → n ≡ k
   numbers_agree {e} {n} {k} p q = let h = number_numeral k in let i : number? (numeral k) ≡ Some n = rw (← q) p in cc
@@ -153,7 +152,7 @@ module _ (profile : ℕ) where
       let z = numbers_agree p g in unanswered m l q k r (inr (omega (arith, leb-false n largest_asked h))) a)
 
   query_decided : {e : Term} (q : ℕ) → Value e → (o : Option ℕ) → number? e ≡ o → Decided profile (QU q e) (answer_rule_lem profile q o)
-  query_decided q v None p = λ m l. no_query m v (λ k r g a. none_some (sym p ∙ ap number? g ∙ number_numeral k))
+  query_decided q v None p = λ m l. no_query m v (λ k r g a. cc (sym p ∙ ap number? g ∙ number_numeral k))
   query_decided q v (Some n) p = asked q n v p (question_shape profile q) refl (leb n largest_asked) refl
 
   pub decided : {e : Term} → Ready e → (ns : List Node) → Decided profile e (rule_in profile (onto e ns))

@@ -15,7 +15,7 @@ use Rattle.calculus.specs.Meanings.{Meaning, reply}
 use Rattle.calculus.specs.Runs.{Run, done, onward}
 use Rattle.calculus.specs.Steps.{Step, eval_s, eval_fapp_left, eval_fapp_right, eval_beta, eval_rec_scrut, eval_rec_z, eval_rec_s, eval_pair_left, eval_pair_right, eval_fst, eval_snd, eval_fst_val, eval_snd_val, eval_abort, eval_inl, eval_inr, eval_case, eval_casel, eval_caser, eval_query, eval_answer}
 use Rattle.calculus.specs.Syntax.{Term, VA, ZE, SU, RE, LA, AP, TR, PA, FS, SN, AB, IL, IR, CA, QU, onto, flat, numeral, up, put, one}
-use Rattle.calculus.proofs.Options.{none_some, some_injective}
+use Rattle.calculus.proofs.Options.{some_injective}
 use Rattle.calculus.proofs.Scopes.{closed_kept}
 use Rattle.terms.specs.Ranges.{number_in_range, AllInRange}
 use Rattle.rewriter.specs.ClosedTerms.{any_type, ClosedTerm}
@@ -85,7 +85,7 @@ module _ (types : ℕ) where
   Gives s = (i : ℕ) (v : Term) → s i ≡ Some v → InRange v
 
   gives_up : (s : ℕ → Option Term) → Gives s → Gives (up s)
-  gives_up s g zero v e = none_some e
+  gives_up s g zero v e = cc
   gives_up s g (suc i) v e = g i v e
 
   put_variable : (i : ℕ) (o : Option Term) → ((v : Term) → o ≡ Some v → InRange v) → InRange (VA i) → InRange (unwrap_or o (VA i))
@@ -120,7 +120,7 @@ module _ (types : ℕ) where
 
   gives_one : (v : Term) → InRange v → Gives (one v)
   gives_one v h zero w e = subst InRange (some_injective e) h
-  gives_one v h (suc i) w e = none_some e
+  gives_one v h (suc i) w e = cc
 
   one_in_range : (v b : Term) → InRange v → InRange b → InRange (put (one v) b)
   one_in_range v b g h = put_in_range (one v) (gives_one v g) b h
