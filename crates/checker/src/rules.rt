@@ -2,16 +2,17 @@
 ghost use Rattle.std.specs.Prelude.{◌≡◌, ◌<◌, length};
 ghost use Rattle.std.specs.Option.{ok_or};
 ghost use Rattle.checker.specs.Awaiting.{kept_of};
-ghost use Rattle.checker.specs.Rules.{answer_type, answered_by, first, second, third, react, arrive};
+ghost use Rattle.checker.specs.Rules.{answer_number_lem, answer_type, answered_by, first, second, third, react, arrive};
 ghost use Rattle.refusals.specs.declared.Question.TheVariants.{QuestionKnown};
 
 use crate::binders::Binders;
 use crate::frame::Awaits;
+use calculus::answer::Shape;
 use calculus::entry::Entry;
 use calculus::form::Form;
 use calculus::kind::Kind;
 use calculus::node::Node;
-use hosts::line::digit_of;
+use hosts::line::shape_of;
 use refusals::Question;
 
 // How a node goes on when it is reached.
@@ -49,17 +50,23 @@ pub struct Site {
     pub place: u16,
 }
 
+// The number of the type of answers of this shape.
+fn type_of(shape: Shape) -> u16
+    ensures value { result ≡ answer_number_lem shape }
+{
+    match shape {
+        Shape::Number => 0,
+        Shape::Flag => 3,
+        Shape::Maybe => 4,
+        Shape::Pair => 5,
+    }
+}
+
 // The number of the type of a question's answers, or none where the profile has no such question.
 pub fn answer_number(profile: u32, question: u16) -> Option<u16>
     ensures value { result ≡ answer_type profile question }
 {
-    match digit_of(profile, question) {
-        1 => Some(0),
-        2 => Some(3),
-        3 => Some(4),
-        4 => Some(5),
-        _ => None,
-    }
+    shape_of(profile, question).map(type_of)
 }
 
 impl Site {

@@ -1,13 +1,12 @@
 // The rule by which an eliminator that has its values is replaced.
-ghost use Rattle.std.specs.Prelude.{◌≡◌, is_some};
-ghost use Rattle.calculus.specs.Meanings.{question_shape};
+ghost use Rattle.std.specs.Prelude.{◌≡◌};
 ghost use Rattle.rewriter.specs.Searches.{rule_for_lem, numeral_in, answer_rule_lem, rule_in};
 
 use crate::site::Rule;
 use calculus::kind::Kind;
 use calculus::node::Node;
 use hosts::host::LARGEST_ASKED;
-use hosts::line::digit_of;
+use hosts::line::shape_of;
 
 // The rule for an eliminator whose first child has this kind; a query has none here.
 fn rule_for(eliminator: Kind, value: Kind) -> Option<Rule>
@@ -39,23 +38,13 @@ fn numeral_of(nodes: &[Node]) -> Option<usize>
     None
 }
 
-// Whether a profile has a question.
-fn has_question(profile: u32, question: u16) -> bool
-    ensures value { result ≡ is_some (question_shape profile question) }
-{
-    match digit_of(profile, question) {
-        1 | 2 | 3 | 4 => true,
-        _ => false,
-    }
-}
-
 // The rule for a query of the value that the nodes begin with: by the laws of hosts it is answered exactly if the value is a
 // numeral that may be asked at and the profile has the question.
 fn answer_rule(profile: u32, question: u16, nodes: &[Node]) -> Option<Rule>
     ensures value { result ≡ answer_rule_lem profile question (numeral_in nodes.now) }
 {
     let number = u16::try_from(numeral_of(nodes)?).ok()?;
-    if number > LARGEST_ASKED || !has_question(profile, question) {
+    if number > LARGEST_ASKED || shape_of(profile, question).is_none() {
         return None;
     }
     Some(Rule::Answer { question, number })
