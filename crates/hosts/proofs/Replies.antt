@@ -4,12 +4,10 @@ use lib.ListN.{length-replicate}
 use borrow.Rule.Slice.PartMut.{put_mid}
 use Rattle.std.proofs.lemmas.List.{take_at, set_at, drop-drop, drop_more, drop_all, take_all, length-take-le}
 use Rattle.std.proofs.lemmas.Slice.{drop-append-drop}
-use Rattle.calculus.specs.declared.answer.Answer.{Answer}
 use Rattle.calculus.specs.declared.kind.Kind.TheVariants.{Zero, Successor, Pair}
 use Rattle.calculus.specs.declared.node.Node.{Node}
 use Rattle.calculus.specs.Kinds.{node, blank}
-use Rattle.calculus.specs.Syntax.{Term, IR, PA, onto, flat, size, numeral}
-use Rattle.calculus.specs.Meanings.{reply}
+use Rattle.calculus.specs.Syntax.{IR, PA, onto, flat, size, numeral}
 use Rattle.calculus.proofs.Reading.{length_flat}
 use Rattle.calculus.proofs.Progress.{size_numeral}
 
@@ -101,8 +99,3 @@ pair_put out head one both two m n k same room h e b f =
     let long : length both ≡ length out =
     ap length first ∙ simp (length-append, length-take, length-drop) (omega (arith, wide, numeral_length m)) in
     pair_parts out both _ m n k same room (rw h at first) (rest_put both two (flat (numeral n)) (k + 2) (n + 1) (omega arith) f)
-
--- what is written is the reply
-pub wrote_reply : (a : Answer) (t : Term) (k : ℕ) (out out' : List Node) → reply a ≡ t → size t ≡ k
-    → out' ≡ flat t ++ drop k out → out' ≡ flat (reply a) ++ drop (size (reply a)) out
-wrote_reply a t k out out' e s f = rw (e, s) f

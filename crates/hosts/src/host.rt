@@ -10,7 +10,7 @@ pub const LARGEST_NUMBER: u16 = 255;
 // The largest number that a question may be put at.
 pub const LARGEST_ASKED: u16 = 4095;
 
-// What answers the questions of a rule.
+// What answers the questions of a rule. A question and its number are two parameters, as every host of a caller has them.
 pub trait Host {
     // What the host means: a profile, and an answer or none to each question at each number.
     ghost meaning: { Self → Meaning };

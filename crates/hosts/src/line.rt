@@ -9,6 +9,7 @@ use calculus::answer::{Answer, Shape};
 use types::keyed::Keyed;
 
 // A number or a flag is a, with b 0; a flag is 0 or 1. A maybe is a 0 with b 0, or a 1 and b the number. A pair is a and b.
+// Callers write a line as these four numbers.
 #[derive(Clone, Copy, PartialEq, Eq, Debug)]
 pub struct Line {
     pub question: u16,

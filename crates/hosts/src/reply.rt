@@ -10,6 +10,7 @@ use calculus::kind::Kind;
 use calculus::node::Node;
 
 // How many nodes an answer is.
+#[tactic(auto, using(crate::proofs::Replies::number_size, crate::proofs::Replies::present_size, crate::proofs::Replies::pair_size))]
 pub fn answer_length(answer: Answer) -> usize
     ensures value { result ≡ size (reply answer) }
 {
@@ -67,6 +68,7 @@ fn put_pair(m: u16, n: u16, out: &mut [Node])
 }
 
 // Writes an answer for which there is room.
+#[tactic(auto, using(crate::proofs::Replies::number_size, crate::proofs::Replies::present_size, crate::proofs::Replies::pair_size))]
 fn put_reply(answer: Answer, out: &mut [Node])
     requires { size (reply answer) ≤ length out.old }
     ensures after { out.new ≡ flat (reply answer) ++ drop (size (reply answer)) out.old }

@@ -3,7 +3,7 @@ ghost use Rattle.std.specs.Prelude.{◌≡◌, ◌^◌, ◌<◌, ◌≤◌, [], 
 ghost use Rattle.calculus.specs.Meanings.{digit};
 ghost use Rattle.hosts.specs.Made.{in_host};
 ghost use Rattle.hosts.specs.Lines.{line_for_lem};
-ghost use Rattle.hosts.specs.Sheets.{most_lines, asked, sheet, DigitsBelow, LegalBelow, LegalSheet, LineFault, SheetFault, ExactFault};
+ghost use Rattle.hosts.specs.Sheets.{most_lines, sheet, DigitsBelow, LegalBelow, LegalSheet, LineFault, SheetFault, ExactFault};
 ghost use Rattle.hosts.specs.SheetLaw.{sheet_lawful};
 
 use crate::host::{Host, LARGEST_ASKED};
@@ -24,10 +24,10 @@ pub struct Sheet<'a> {
 }
 
 // The line for a question at a number.
-fn line_for(lines: &[Line], question: u16, number: u16) -> Option<Line>
-    ensures value { result ≡ line_for_lem (asked question number) lines.now }
+fn line_for(lines: &[Line], asked: &Asked) -> Option<Line>
+    ensures value { result ≡ line_for_lem asked.now lines.now }
 {
-    first_with_key(lines, &Asked { question, number }).map(|i| lines[i])
+    first_with_key(lines, asked).map(|i| lines[i])
 }
 
 // Question 42: the first digit of a profile above 4.
@@ -103,7 +103,7 @@ impl<'a> Host for Sheet<'a> {
             return None;
         }
         let shape = shape_of(self.profile, question)?;
-        let line = line_for(self.lines, question, number);
+        let line = line_for(self.lines, &Asked { question, number });
         let (a, b) = line.map_or((0, 0), |line| (line.a, line.b));
         Some(answer_of(shape, a, b))
     }

@@ -47,9 +47,6 @@ same_decides k e =
 pub same_entry_is : (k e : Entry) → same_entry k e ≡ true → k ≡ e
 same_entry_is k e = (same_decides k e).0
 
-pub same_entry_refl : (e : Entry) → same_entry e e ≡ true
-same_entry_refl e = (same_decides e e).1 refl
-
 -- Entries that occur in a list.
 
 pub occurs_decides : (k : Entry) (es : List Entry) → Decides (occurs k es) (Has es k)
