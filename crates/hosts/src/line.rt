@@ -1,7 +1,7 @@
 // A line of a sheet: the answer to a question at a number; which lines are legal, and what they answer.
 ghost use Rattle.std.specs.Prelude.{◌≡◌};
 ghost use Rattle.calculus.specs.Meanings.{digit_shape, question_shape};
-ghost use Rattle.hosts.specs.Lines.{question_digit, line_has, shape_legal, legal_line, shape_answer};
+ghost use Rattle.hosts.specs.Lines.{question_digit, line_has, shape_legal, legal, legal_line, shape_answer, answer_in};
 ghost use Rattle.hosts.specs.Sheets.{asked_of};
 
 use crate::host::{LARGEST_ASKED, LARGEST_NUMBER};
@@ -76,7 +76,7 @@ pub fn shape_of(profile: u32, question: u16) -> Option<Shape>
 }
 
 // The answer that a and b are in a shape.
-pub fn answer_of(shape: Shape, a: u16, b: u16) -> Answer
+pub fn answer_in_shape(shape: Shape, a: u16, b: u16) -> Answer
     ensures value { result ≡ shape_answer shape a b }
 {
     match shape {
@@ -87,8 +87,16 @@ pub fn answer_of(shape: Shape, a: u16, b: u16) -> Answer
     }
 }
 
+// The answer of a and b in the shape that a digit stands for, or none where it stands for none.
+pub fn answer_of(digit: u32, a: u16, b: u16) -> Option<Answer>
+    ensures value { result ≡ answer_in (digit_shape digit) a b }
+{
+    let shape = shape_of_digit(digit)?;
+    Some(answer_in_shape(shape, a, b))
+}
+
 // Whether a and b are an answer in a shape.
-pub fn is_legal(shape: Shape, a: u16, b: u16) -> bool
+pub fn fits_shape(shape: Shape, a: u16, b: u16) -> bool
     ensures value { result ≡ shape_legal shape a b }
 {
     match shape {
@@ -100,10 +108,17 @@ pub fn is_legal(shape: Shape, a: u16, b: u16) -> bool
     }
 }
 
+// Whether a and b are an answer in the shape that a digit stands for.
+pub fn is_legal(digit: u32, a: u16, b: u16) -> bool
+    ensures value { result ≡ legal (digit_shape digit) a b }
+{
+    shape_of_digit(digit).is_some_and(|shape| fits_shape(shape, a, b))
+}
+
 // Question 43: whether a line is legal by a profile.
 pub fn is_legal_line(profile: u32, line: &Line) -> bool
     ensures value { result ≡ legal_line profile line.now }
 {
     let shape = shape_of(profile, line.question);
-    line.number <= LARGEST_ASKED && shape.is_some_and(|shape| is_legal(shape, line.a, line.b))
+    line.number <= LARGEST_ASKED && shape.is_some_and(|shape| fits_shape(shape, line.a, line.b))
 }

@@ -7,7 +7,7 @@ ghost use Rattle.hosts.specs.Sheets.{most_lines, sheet, DigitsBelow, LegalBelow,
 ghost use Rattle.hosts.specs.SheetLaw.{sheet_lawful};
 
 use crate::host::{Host, LARGEST_ASKED};
-use crate::line::{Asked, Line, answer_of, digit_of, is_legal_line, shape_of};
+use crate::line::{Asked, Line, answer_in_shape, digit_of, is_legal_line, shape_of};
 use calculus::answer::Answer;
 use refusals::{Layer, Question, Refusal};
 use types::keyed::first_with_key;
@@ -105,6 +105,6 @@ impl<'a> Host for Sheet<'a> {
         let shape = shape_of(self.profile, question)?;
         let line = line_for(self.lines, &Asked { question, number });
         let (a, b) = line.map_or((0, 0), |line| (line.a, line.b));
-        Some(answer_of(shape, a, b))
+        Some(answer_in_shape(shape, a, b))
     }
 }
