@@ -1,1 +1,2 @@
+pub mod AnyHost
 pub mod Hexadecimal

@@ -11,13 +11,6 @@ use std::alloc::{AllocError, AllocFailed, Global};
 use std::fmt;
 use types::table::GIVEN;
 
-// The words read so far, and where each stands: the types' positions and then the nodes'.
-#[derive(Drop)]
-struct Assembly {
-    rule: Rule,
-    positions: Vec<Position>,
-}
-
 // Why a word is not taken.
 #[derive(Clone, Copy)]
 enum TextError {
@@ -56,81 +49,61 @@ impl fmt::Display for TextError {
 
 // The file that a text says.
 pub fn assemble(heap: Global, text: Text<'_>) -> Result<Vec<u8>, Failure> {
-    let assembly = read(heap, text)?;
-    match assembly.rule.to_file(heap)? {
-        Ok(file) => Ok(file),
-        Err(refusal) => Err(refused(heap, text, &assembly, refusal)?),
-    }
+    let rule = read(heap, text)?;
+    rule.to_file(heap)?
+        .map_err(|refusal| refused(heap, text, &rule, refusal))
 }
 
-fn read(heap: Global, text: Text<'_>) -> Result<Assembly, Failure> {
+fn read(heap: Global, text: Text<'_>) -> Result<Rule, Failure> {
     let nodes = Vec::new(heap);
     let types = Vec::from_slice(heap, &GIVEN)?;
-    let mut assembly = Assembly {
-        rule: Rule { nodes, types },
-        positions: Vec::new(heap),
-    };
-    for (number, line) in text.text.lines().enumerate() {
-        if let Err((position, error)) = assembly.add_line(number, line) {
-            return Err(at_word(heap, text, position, error)?);
+    let mut rule = Rule { nodes, types };
+    for (line, words) in text.text.lines().enumerate() {
+        for (word, letters) in without_comment(words).split_whitespace().enumerate() {
+            let position = Position { line, word };
+            add_word(&mut rule, letters).map_err(|error| at_word(heap, text, position, error))?;
         }
     }
-    Ok(assembly)
+    Ok(rule)
 }
 
-impl Assembly {
-    // Adds the words of a line, or says which is not taken and why.
-    fn add_line(&mut self, number: usize, line: &str) -> Result<(), (Position, TextError)> {
-        for (word, text) in without_comment(line).split_whitespace().enumerate() {
-            let position = Position { line: number, word };
-            if let Err(error) = self.add_word(position, text) {
-                return Err((position, error));
-            }
-        }
-        Ok(())
+fn add_word(rule: &mut Rule, word: &str) -> Result<(), TextError> {
+    if !is_type_word(word) {
+        rule.nodes.push(Node::of_word(word)?)?;
+        return Ok(());
     }
+    if !rule.nodes.is_empty() {
+        return Err(TextError::Order);
+    }
+    rule.types.push(Entry::of_word(word)?)?;
+    Ok(())
+}
 
-    fn add_word(&mut self, position: Position, word: &str) -> Result<(), TextError> {
-        if is_type_word(word) {
-            if !self.rule.nodes.is_empty() {
-                return Err(TextError::Order);
-            }
-            self.rule.types.push(Entry::of_word(word)?)?;
-        } else {
-            self.rule.nodes.push(Node::of_word(word)?)?;
-        }
-        self.positions.push(position)?;
-        Ok(())
-    }
-
-    // Where the word stands that a refusal is about, if it is about one.
-    fn position_of(&self, question: Question) -> Option<Position> {
-        let own_types = self.rule.types.len().saturating_sub(GIVEN.len());
-        let index = match question {
-            Question::EntryLaid { place } => usize::from(place).checked_sub(GIVEN.len())?,
-            Question::OneTerm { place } => own_types.checked_add(usize::from(place))?,
-            _ => return None,
-        };
-        self.positions.get(index).copied()
-    }
+// Where the word stands that a refusal is about, if it is about one: the types' words come first, and then the nodes'.
+fn position_of(text: &str, rule: &Rule, question: Question) -> Option<Position> {
+    let own_types = rule.types.len().saturating_sub(GIVEN.len());
+    let index = match question {
+        Question::EntryLaid { place } => usize::from(place).checked_sub(GIVEN.len())?,
+        Question::OneTerm { place } => own_types.checked_add(usize::from(place))?,
+        _ => return None,
+    };
+    text.lines()
+        .enumerate()
+        .flat_map(|(line, words)| {
+            let count = without_comment(words).split_whitespace().count();
+            (0..count).map(move |word| Position { line, word })
+        })
+        .nth(index)
 }
 
 // The message about a refusal, at the word that it is about, or at the end of the text.
-fn refused(
-    heap: Global,
-    text: Text<'_>,
-    assembly: &Assembly,
-    refusal: Refusal,
-) -> Result<Failure, AllocError> {
+fn refused(heap: Global, text: Text<'_>, rule: &Rule, refusal: Refusal) -> Failure {
     let line = RefusalLine(refusal);
-    if let Some(position) = assembly.position_of(refusal.question) {
+    if let Some(position) = position_of(text.text, rule, refusal.question) {
         return at_word(heap, text, position, line);
     }
-    let name = text.name;
-    let types = assembly.rule.types.len();
-    let nodes = assembly.rule.nodes.len();
-    let message = format!(in heap;
+    let (name, types, nodes) = (text.name, rule.types.len(), rule.nodes.len());
+    Failure::told(format!(in heap;
         "{name}: at the end, after {types} types, the given six among them, and {nodes} nodes: {line}"
-    )?;
-    Ok(Failure::Message(message))
+    ))
 }

@@ -10,9 +10,10 @@ use calculus::node::Node;
 use hosts::line::Line;
 use hosts::version::Version;
 use std::alloc::{AllocError, AllocFailed, Global};
+use std::error::Error;
 use std::fmt;
-use std::str::SplitWhitespace;
 
+// What a line says. A line is read whole before anything is done, so a command is a value and no closure.
 #[derive(Drop)]
 pub enum Command {
     Tables(Lengths),
@@ -48,7 +49,7 @@ pub enum Table {
 }
 
 // Why a line is answered with an error.
-#[derive(Clone, Copy)]
+#[derive(Clone, Copy, PartialEq, Eq, Debug)]
 pub enum LineError<'a> {
     Memory,
     NotText,
@@ -71,6 +72,8 @@ impl<'a, T: Drop> From<AllocFailed<T>> for LineError<'a> {
         LineError::Memory
     }
 }
+
+impl Error for LineError<'_> {}
 
 impl fmt::Display for LineError<'_> {
     fn fmt<W: fmt::Write>(&self, f: &mut fmt::Formatter<W>) -> fmt::Result {
@@ -95,163 +98,133 @@ impl fmt::Display for LineError<'_> {
 
 // The command that a line says, or none where it is blank or a comment.
 pub fn command_of<'a>(heap: Global, line: &'a str) -> Result<Option<Command>, LineError<'a>> {
-    let mut words = line.split_whitespace();
-    let Some(name) = words.next() else {
+    let words: Vec<&'a str> = line.split_whitespace().collect(heap)?;
+    let [name, words @ ..] = words.as_slice() else {
         return Ok(None);
     };
     if name.starts_with('#') {
         return Ok(None);
     }
-    let command = match name {
-        "tables" => Command::Tables(lengths_of(heap, words)?),
-        "file" => Command::File(file_of(heap, words)?),
-        "load" => alone(words, Command::Load, "load and no more")?,
-        "nodes" => Command::Nodes(all_of(heap, words)?),
-        "types" => Command::Types(all_of(heap, words)?),
-        "entry" => entry_of(words)?,
-        "count" => Command::Count(number_of(words, "count K")?),
-        "write" => alone(words, Command::Write, "write and no more")?,
-        "dump" => Command::Dump(table_of(words)?),
-        "listing" => listing_of(heap, words)?,
-        "sheet" => sheet_of(heap, words)?,
-        "profile" => alone(words, Command::Profile, "profile and no more")?,
-        "ask" => ask_of(words)?,
-        _ => return Err(LineError::Unknown(name)),
-    };
+    let usage = usage_of(name).ok_or(LineError::Unknown(name))?;
+    let command = command_with(heap, name, words)?.ok_or(LineError::Usage(usage))?;
     Ok(Some(command))
 }
 
-// A command that takes no words.
-fn alone(
-    mut words: SplitWhitespace<'_>,
-    command: Command,
-    usage: &'static str,
-) -> Result<Command, LineError<'static>> {
-    match words.next() {
-        Some(_) => Err(LineError::Usage(usage)),
-        None => Ok(command),
-    }
-}
-
-// The only word.
-fn only_word<'a>(
-    mut words: SplitWhitespace<'a>,
-    usage: &'static str,
-) -> Result<&'a str, LineError<'static>> {
-    match (words.next(), words.next()) {
-        (Some(word), None) => Ok(word),
-        _ => Err(LineError::Usage(usage)),
-    }
-}
-
-fn number_of(words: SplitWhitespace<'_>, usage: &'static str) -> Result<usize, LineError<'static>> {
-    match decimal(only_word(words, usage)?) {
-        Some(number) => Ok(number),
-        None => Err(LineError::Usage(usage)),
-    }
-}
-
-fn lengths_of<'a>(heap: Global, words: SplitWhitespace<'a>) -> Result<Lengths, LineError<'a>> {
-    let lengths: Vec<Length> = all_of(heap, words)?;
-    let [nodes, types, scratch, bytes] = lengths.as_slice() else {
-        return Err(LineError::Usage("tables NODES TYPES SCRATCH BYTES"));
-    };
-    Ok(Lengths {
-        nodes: nodes.0,
-        types: types.0,
-        scratch: scratch.0,
-        bytes: bytes.0,
+// What a command's line has to be like, or none where there is no command of this name.
+fn usage_of(name: &str) -> Option<&'static str> {
+    Some(match name {
+        "tables" => "tables NODES TYPES SCRATCH BYTES",
+        "file" => "file HEX, with two hexadecimal digits a byte",
+        "load" => "load and no more",
+        "nodes" => "nodes WORD..",
+        "types" => "types WORD..",
+        "entry" => "entry I WORD",
+        "count" => "count K",
+        "write" => "write and no more",
+        "dump" => "dump nodes, dump types, dump scratch or dump bytes",
+        "listing" => "listing TODAY [PUBLISHED/WITHDRAWN/LINE/PATCH ..]",
+        "sheet" => "sheet PROFILE [QUESTION/NUMBER/A/B ..], the profile as 8 hexadecimal digits",
+        "profile" => "profile and no more",
+        "ask" => "ask QUESTION NUMBER, each at most 65535",
+        _ => return None,
     })
 }
 
-fn file_of(heap: Global, mut words: SplitWhitespace<'_>) -> Result<Vec<u8>, LineError<'static>> {
-    let wrong = LineError::Usage("file HEX, with two hexadecimal digits a byte");
-    let hex = words.next().unwrap_or("");
-    if words.next().is_some() {
-        return Err(wrong);
-    }
-    match bytes_of(heap, hex)? {
-        Some(bytes) => Ok(bytes),
-        None => Err(wrong),
-    }
+// The command of this name with these words, or none where it is not to be used so.
+fn command_with<'a>(
+    heap: Global,
+    name: &str,
+    words: &[&'a str],
+) -> Result<Option<Command>, LineError<'a>> {
+    let command = match (name, words) {
+        ("tables", _) => lengths_of(heap, words)?.map(Command::Tables),
+        ("file", []) => Some(Command::File(Vec::new(heap))),
+        ("file", [digits]) => bytes_of(heap, digits)?.map(Command::File),
+        ("load", []) => Some(Command::Load),
+        ("nodes", _) => Some(Command::Nodes(all_of(heap, words)?)),
+        ("types", _) => Some(Command::Types(all_of(heap, words)?)),
+        ("entry", [place, word]) => entry_of(place, word)?,
+        ("count", [number]) => decimal(number).map(Command::Count),
+        ("write", []) => Some(Command::Write),
+        ("dump", [name]) => table_of(name).map(Command::Dump),
+        ("listing", [today, versions @ ..]) => Some(listing_of(heap, today, versions)?),
+        ("sheet", [profile, lines @ ..]) => sheet_of(heap, profile, lines)?,
+        ("profile", []) => Some(Command::Profile),
+        ("ask", [question, number]) => ask_of(question, number),
+        _ => None,
+    };
+    Ok(command)
 }
 
-// What every word says.
-fn all_of<'a, T: Worded + Drop>(
-    heap: Global,
-    words: SplitWhitespace<'a>,
-) -> Result<Vec<T>, LineError<'a>> {
+// What every word says. A chain ended by try_collect was tried: the borrow checker does not cover it over lent words.
+fn all_of<'a, T: Worded + Drop>(heap: Global, words: &[&'a str]) -> Result<Vec<T>, LineError<'a>> {
     let mut all = Vec::new(heap);
     for word in words {
-        match T::of_word(word) {
-            Ok(x) => all.push(x)?,
-            Err(error) => return Err(LineError::Word { word, error }),
-        }
+        all.push(read_word(word)?)?;
     }
     Ok(all)
 }
 
-fn entry_of<'a>(mut words: SplitWhitespace<'a>) -> Result<Command, LineError<'a>> {
-    let wrong = LineError::Usage("entry I WORD");
-    let (Some(place), Some(word), None) = (words.next(), words.next(), words.next()) else {
-        return Err(wrong);
+fn read_word<'a, T: Worded>(word: &'a str) -> Result<T, LineError<'a>> {
+    T::of_word(word).map_err(|error| LineError::Word { word, error })
+}
+
+fn lengths_of<'a>(heap: Global, words: &[&'a str]) -> Result<Option<Lengths>, LineError<'a>> {
+    let lengths: Vec<Length> = all_of(heap, words)?;
+    let [nodes, types, scratch, bytes] = lengths.as_slice() else {
+        return Ok(None);
     };
+    Ok(Some(Lengths {
+        nodes: nodes.0,
+        types: types.0,
+        scratch: scratch.0,
+        bytes: bytes.0,
+    }))
+}
+
+fn entry_of<'a>(place: &str, word: &'a str) -> Result<Option<Command>, LineError<'a>> {
     let Some(place) = decimal(place) else {
-        return Err(wrong);
+        return Ok(None);
     };
-    match Entry::of_word(word) {
-        Ok(entry) => Ok(Command::Entry { place, entry }),
-        Err(error) => Err(LineError::Word { word, error }),
+    let entry = read_word(word)?;
+    Ok(Some(Command::Entry { place, entry }))
+}
+
+fn table_of(name: &str) -> Option<Table> {
+    match name {
+        "nodes" => Some(Table::Nodes),
+        "types" => Some(Table::Types),
+        "scratch" => Some(Table::Scratch),
+        "bytes" => Some(Table::Bytes),
+        _ => None,
     }
 }
 
-fn table_of(words: SplitWhitespace<'_>) -> Result<Table, LineError<'static>> {
-    let usage = "dump nodes, dump types, dump scratch or dump bytes";
-    match only_word(words, usage)? {
-        "nodes" => Ok(Table::Nodes),
-        "types" => Ok(Table::Types),
-        "scratch" => Ok(Table::Scratch),
-        "bytes" => Ok(Table::Bytes),
-        _ => Err(LineError::Usage(usage)),
-    }
+fn listing_of<'a>(
+    heap: Global,
+    word: &'a str,
+    versions: &[&'a str],
+) -> Result<Command, LineError<'a>> {
+    let today = small_number(word).map_err(|error| LineError::Word { word, error })?;
+    let versions = all_of(heap, versions)?;
+    Ok(Command::Listing { today, versions })
 }
 
-fn listing_of<'a>(heap: Global, mut words: SplitWhitespace<'a>) -> Result<Command, LineError<'a>> {
-    let Some(word) = words.next() else {
-        return Err(LineError::Usage("listing TODAY [PUBLISHED/WITHDRAWN/LINE/PATCH ..]"));
+fn sheet_of<'a>(
+    heap: Global,
+    profile: &str,
+    lines: &[&'a str],
+) -> Result<Option<Command>, LineError<'a>> {
+    let Some(profile) = profile_of(profile) else {
+        return Ok(None);
     };
-    match small_number(word) {
-        Ok(today) => Ok(Command::Listing {
-            today,
-            versions: all_of(heap, words)?,
-        }),
-        Err(error) => Err(LineError::Word { word, error }),
-    }
+    let lines = all_of(heap, lines)?;
+    Ok(Some(Command::Sheet { profile, lines }))
 }
 
-fn sheet_of<'a>(heap: Global, mut words: SplitWhitespace<'a>) -> Result<Command, LineError<'a>> {
-    let usage = LineError::Usage(
-        "sheet PROFILE [QUESTION/NUMBER/A/B ..], the profile as 8 hexadecimal digits",
-    );
-    let Some(word) = words.next() else {
-        return Err(usage);
-    };
-    match profile_of(word) {
-        Some(profile) => Ok(Command::Sheet {
-            profile,
-            lines: all_of(heap, words)?,
-        }),
-        None => Err(usage),
-    }
-}
-
-fn ask_of(mut words: SplitWhitespace<'_>) -> Result<Command, LineError<'static>> {
-    let usage = LineError::Usage("ask QUESTION NUMBER, each at most 65535");
-    let (Some(question), Some(number), None) = (words.next(), words.next(), words.next()) else {
-        return Err(usage);
-    };
-    match (small_number(question), small_number(number)) {
-        (Ok(question), Ok(number)) => Ok(Command::Ask { question, number }),
-        _ => Err(usage),
-    }
+fn ask_of(question: &str, number: &str) -> Option<Command> {
+    Some(Command::Ask {
+        question: small_number(question).ok()?,
+        number: small_number(number).ok()?,
+    })
 }

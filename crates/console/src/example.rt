@@ -34,19 +34,15 @@ pub fn example(heap: Global) -> Result<String, Failure> {
     let rule = Rule::of_file(heap, "example", &RULE)?;
     let described = description(heap, &rule)?;
     writeln!(text, "\nLoaded: {described}")?;
-    match rule.to_file(heap)? {
-        Ok(file) if file.as_slice() == RULE.as_slice() => writeln!(
-            text,
-            "Written back: {length} bytes, equal to the file."
-        )?,
-        Ok(_) => return Err(Failure::Message(String::from_str(
+    let file = rule.to_file(heap)?.map_err(|refusal| {
+        Failure::told(format!(in heap; "example: {}", RefusalLine(refusal)))
+    })?;
+    if file.as_slice() != RULE.as_slice() {
+        return Err(Failure::told(String::from_str(
             heap,
             "example: the bytes written back differ from the file",
-        )?)),
-        Err(refusal) => return Err(Failure::Message(format!(in heap;
-            "example: {}",
-            RefusalLine(refusal)
-        )?)),
+        )));
     }
+    writeln!(text, "Written back: {length} bytes, equal to the file.")?;
     Ok(text)
 }

@@ -3,52 +3,48 @@ use crate::words::{WordError, Worded, small_number};
 use calculus::answer::Answer;
 use hosts::line::Line;
 use hosts::version::Version;
-use std::fmt;
+use std::{array, fmt};
 
-// The four numbers of a word such as 1/2/3/4.
-fn four_numbers(word: &str) -> Option<[u16; 4]> {
+// The four numbers of a word such as 1/2/3/4; the error is for a word with fewer, more or others.
+fn four_numbers(word: &str, error: WordError) -> Result<[u16; 4], WordError> {
     let mut parts = word.split('/');
-    let mut numbers = [0; 4];
-    for number in numbers.iter_mut() {
-        *number = small_number(parts.next()?).ok()?;
-    }
+    let numbers = array::try_from_fn(|_| {
+        parts
+            .next()
+            .and_then(|part| small_number(part).ok())
+            .ok_or(error)
+    })?;
     match parts.next() {
-        Some(_) => None,
-        None => Some(numbers),
+        Some(_) => Err(error),
+        None => Ok(numbers),
     }
 }
 
 // A version as the script writes it: PUBLISHED/WITHDRAWN/LINE/PATCH.
 impl Worded for Version {
     fn of_word(word: &str) -> Result<Version, WordError> {
-        let Some(numbers) = four_numbers(word) else {
-            return Err(WordError::Version);
-        };
-        version_of(numbers)
+        version_of(four_numbers(word, WordError::Version)?)
     }
 }
 
-// The version of four numbers, of which line and patch have 8 bits.
+// The version of four numbers, of which line and patch have 8 bits. TryFrom could be written in the versions' own crate alone.
 pub fn version_of(numbers: [u16; 4]) -> Result<Version, WordError> {
     let [published, withdrawn, line, patch] = numbers;
-    match (u8::try_from(line), u8::try_from(patch)) {
-        (Ok(line), Ok(patch)) => Ok(Version {
-            published,
-            withdrawn,
-            line,
-            patch,
-        }),
-        _ => Err(WordError::Version),
-    }
+    let (Ok(line), Ok(patch)) = (u8::try_from(line), u8::try_from(patch)) else {
+        return Err(WordError::Version);
+    };
+    Ok(Version {
+        published,
+        withdrawn,
+        line,
+        patch,
+    })
 }
 
 // A line of a sheet as the script writes it: QUESTION/NUMBER/A/B.
 impl Worded for Line {
     fn of_word(word: &str) -> Result<Line, WordError> {
-        let Some(numbers) = four_numbers(word) else {
-            return Err(WordError::Line);
-        };
-        let [question, number, a, b] = numbers;
+        let [question, number, a, b] = four_numbers(word, WordError::Line)?;
         Ok(Line {
             question,
             number,

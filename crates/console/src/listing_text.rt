@@ -5,98 +5,75 @@ use crate::messages::RefusalLine;
 use crate::text::{Position, Text, at_word, without_comment};
 use crate::words::{WordError, small_number};
 use hosts::host::Host;
-use hosts::listing::{Listing, MOST_VERSIONS};
+use hosts::listing::Listing;
 use hosts::version::Version;
-use std::alloc::{AllocFailed, Global};
+use std::alloc::Global;
+use std::array;
 
-// Why a line is not taken: no memory, or a word that cannot be read or is missing.
+// Why a line is not taken: a word of it that cannot be read, or that is too many or the last of too few.
 #[derive(Clone, Copy)]
-enum LineFault {
-    Memory,
-    Word { word: usize, error: WordError },
-}
-
-impl<T: Drop> From<AllocFailed<T>> for LineFault {
-    fn from(_e: AllocFailed<T>) -> LineFault {
-        LineFault::Memory
-    }
+struct LineFault {
+    word: usize,
+    error: WordError,
 }
 
 // The versions that a text says, or a message about the first word at fault.
-pub fn versions_of(heap: Global, text: Text<'_>) -> Result<Vec<Version>, Failure> {
+fn versions_of(heap: Global, text: Text<'_>) -> Result<Vec<Version>, Failure> {
     let mut versions = Vec::new(heap);
     for (line, words) in text.text.lines().enumerate() {
-        match add_line(&mut versions, words) {
-            Ok(()) => {}
-            Err(LineFault::Memory) => return Err(Failure::Memory),
-            Err(LineFault::Word { word, error }) => {
-                return Err(at_word(heap, text, Position { line, word }, error)?);
-            }
+        let version = version_in(words).map_err(|fault| {
+            let LineFault { word, error } = fault;
+            at_word(heap, text, Position { line, word }, error)
+        })?;
+        if let Some(version) = version {
+            versions.push(version)?;
         }
     }
     Ok(versions)
 }
 
-// Adds the version that a line says, if it says one.
-fn add_line(versions: &mut Vec<Version>, line: &str) -> Result<(), LineFault> {
+// The version that a line says, if it says one.
+fn version_in(line: &str) -> Result<Option<Version>, LineFault> {
     let Some(numbers) = numbers_in(line)? else {
-        return Ok(());
+        return Ok(None);
     };
-    match version_of(numbers) {
-        Ok(version) => versions.push(version)?,
-        Err(error) => {
-            let word = if numbers[2] > 255 { 2 } else { 3 };
-            return Err(LineFault::Word { word, error });
-        }
-    }
-    Ok(())
+    let word = if numbers[2] > 255 { 2 } else { 3 };
+    let version = version_of(numbers).map_err(|error| LineFault { word, error })?;
+    Ok(Some(version))
 }
 
 // The four numbers of a line, or none where it is blank.
 fn numbers_in(line: &str) -> Result<Option<[u16; 4]>, LineFault> {
-    let mut words = without_comment(line).split_whitespace();
-    let mut numbers = [0; 4];
-    let mut found = 0usize;
-    for number in numbers.iter_mut() {
-        let Some(word) = words.next() else {
-            break;
-        };
-        match small_number(word) {
-            Ok(value) => *number = value,
-            Err(error) => return Err(LineFault::Word { word: found, error }),
-        }
-        found = found.saturating_add(1);
-    }
+    let line = without_comment(line);
+    let Some(last) = line.split_whitespace().count().checked_sub(1) else {
+        return Ok(None);
+    };
     let error = WordError::Version;
-    match (found, words.next()) {
-        (0, _) => Ok(None),
-        (4, None) => Ok(Some(numbers)),
-        (4, Some(_)) => Err(LineFault::Word { word: 4, error }),
-        _ => Err(LineFault::Word {
-            word: found.saturating_sub(1),
-            error,
-        }),
+    let mut words = (0usize..).zip(line.split_whitespace());
+    let numbers = array::try_from_fn(|_| {
+        let (word, digits) = words.next().ok_or(LineFault { word: last, error })?;
+        small_number(digits).map_err(|error| LineFault { word, error })
+    })?;
+    match words.next() {
+        Some((word, _)) => Err(LineFault { word, error }),
+        None => Ok(Some(numbers)),
     }
 }
 
-// The host's count and profile, and a line for each version: its place, its age, whether it is withdrawn, its line and patch.
-pub fn listing_table(
-    heap: Global,
-    name: &str,
-    versions: &[Version],
-    today: u16,
-) -> Result<String, Failure> {
+// The table of the listing that a text says: the host's count and profile, and a line for each version with its place, its
+// age, whether it is withdrawn, its line and its patch.
+pub fn listing_table(heap: Global, text: Text<'_>, today: u16) -> Result<String, Failure> {
+    let versions = versions_of(heap, text)?;
+    let name = text.name;
     let mut host = Listing::empty();
-    if let Err(refusal) = host.make(versions, today) {
-        return Err(Failure::Message(format!(in heap; "{name}: {}", RefusalLine(refusal))?));
-    }
+    host.make(versions.as_slice(), today).map_err(|refusal| {
+        Failure::told(format!(in heap; "{name}: {}", RefusalLine(refusal)))
+    })?;
     let profile = host.profile();
     let count = AnswerWords(host.query(0, 0));
     let mut text = format!(in heap; "profile {profile:08x}\ncount: {count}\n")?;
-    for number in 0..MOST_VERSIONS as u16 {
-        if usize::from(number) >= versions.len() {
-            break;
-        }
+    // the host has taken the versions, so they are at most 200
+    for number in 0..versions.len() as u16 {
         add_version(&mut text, &mut host, number)?;
     }
     Ok(text)

@@ -117,12 +117,9 @@ impl fmt::Display for Indent {
 // The name of the type that a node has as its number.
 fn type_in<'a>(node: Node, names: &'a [String]) -> Option<&'a str> {
     match node.kind {
-        Kind::Lambda | Kind::Abort | Kind::Inl | Kind::Inr => match names.get(usize::from(
-            node.number,
-        )) {
-            Some(name) => Some(name.as_str()),
-            None => None,
-        },
+        Kind::Lambda | Kind::Abort | Kind::Inl | Kind::Inr => names
+            .get(usize::from(node.number))
+            .map(|name| name.as_str()),
         _ => None,
     }
 }

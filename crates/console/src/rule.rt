@@ -31,51 +31,41 @@ impl Rule {
     pub fn of_file(heap: Global, name: &str, file: &[u8]) -> Result<Rule, Failure> {
         let mut nodes = vec![in heap; Node::BLANK; MOST_NODES]?;
         let mut types = vec![in heap; Entry::BLANK; MOST_ENTRIES]?;
-        match load(file, nodes.as_mut_slice(), types.as_mut_slice()) {
-            Ok(loaded) => {
-                nodes.truncate(loaded.nodes);
-                types.truncate(loaded.count);
-                Ok(Rule { nodes, types })
-            }
-            Err(refusal) => Err(unloadable(heap, name, file, refusal)?),
-        }
+        let loaded = load(file, nodes.as_mut_slice(), types.as_mut_slice()).map_err(
+            |refusal| unloadable(heap, name, file, refusal),
+        )?;
+        nodes.truncate(loaded.nodes);
+        types.truncate(loaded.count);
+        Ok(Rule { nodes, types })
     }
 
-    // The file that says the rule.
+    // The file that says the rule. `?` passes a lack of memory on, and the caller answers the refusal: hence two results.
     pub fn to_file(&self, heap: Global) -> Result<Result<Vec<u8>, Refusal>, AllocError> {
         let mut bytes = vec![in heap; 0; MOST_BYTES]?;
         let types = self.types.as_slice();
-        match write(
+        let written = write(
             self.nodes.as_slice(),
             types,
             types.len(),
             bytes.as_mut_slice(),
-        ) {
-            Ok(length) => {
-                bytes.truncate(length);
-                Ok(Ok(bytes))
-            }
-            Err(refusal) => Ok(Err(refusal)),
-        }
+        );
+        Ok(written.map(|length| {
+            bytes.truncate(length);
+            bytes
+        }))
     }
 }
 
 // Why a file was not loaded, with the record at fault where there is one.
-fn unloadable(
-    heap: Global,
-    name: &str,
-    file: &[u8],
-    refusal: Refusal,
-) -> Result<Failure, AllocError> {
+fn unloadable(heap: Global, name: &str, file: &[u8], refusal: Refusal) -> Failure {
     let length = file.len();
     let place = refusal.report().place;
     let line = RefusalLine(refusal);
-    let message = match six_at(file, usize::from(place)) {
+    Failure::told(match six_at(file, usize::from(place)) {
         Some(six) => format!(in heap;
             "{name}: {length} bytes, record {place} is {}: {line}",
             Hex(six)
         ),
         None => format!(in heap; "{name}: {length} bytes: {line}"),
-    };
-    Ok(Failure::Message(message?))
+    })
 }

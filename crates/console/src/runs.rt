@@ -40,33 +40,15 @@ pub struct Runs<'a, T: TableItem>(pub &'a [T]);
 
 impl<T: TableItem> fmt::Display for Runs<'_, T> {
     fn fmt<W: fmt::Write>(&self, f: &mut fmt::Formatter<W>) -> fmt::Result {
-        let mut run: Option<(T, usize)> = None;
-        for x in self.0 {
-            run = match run {
-                Some((y, n)) if y == *x => Some((y, n.saturating_add(1))),
-                Some((y, n)) => {
-                    write_run(f, y, n)?;
-                    Some((*x, 1))
-                }
-                None => Some((*x, 1)),
-            };
+        for run in self.0.chunk_by(|x, y| x == y) {
+            if let Some(item) = run.first() {
+                f.write_str(" ")?;
+                item.write_word(f)?;
+            }
+            if run.len() > 1 {
+                write!(f, "*{}", run.len())?;
+            }
         }
-        match run {
-            Some((y, n)) => write_run(f, y, n),
-            None => Ok(()),
-        }
+        Ok(())
     }
-}
-
-fn write_run<T: TableItem, W: fmt::Write>(
-    f: &mut fmt::Formatter<W>,
-    x: T,
-    n: usize,
-) -> fmt::Result {
-    f.write_str(" ")?;
-    x.write_word(f)?;
-    if n == 1 {
-        return Ok(());
-    }
-    write!(f, "*{n}")
 }

@@ -1,5 +1,9 @@
 // The state of a script, and what each command does to it.
-ghost use Rattle.std.specs.Prelude.{◌≡◌, replicate, IfErr, OnErr, OnOk, ◌≢◌};
+ghost use Rattle.std.specs.Prelude.{◌≡◌, replicate, IfErr, OnErr, OnOk};
+ghost use Rattle.calculus.specs.declared.form.Form.TheVariants.{Product};
+ghost use Rattle.calculus.specs.declared.kind.Kind.TheVariants.{Fst};
+ghost use Rattle.calculus.specs.Forms.{entry};
+ghost use Rattle.calculus.specs.Kinds.{node};
 ghost use Rattle.console.specs.declared.command.LineError.TheVariants.{Memory};
 
 use crate::command::{Command, Lengths, LineError, Table};
@@ -16,7 +20,7 @@ use calculus::node::Node;
 use refusals::Refusal;
 use rule_file::load::{Loaded, load};
 use rule_file::write::write;
-use std::alloc::{AllocError, Global};
+use std::alloc::Global;
 use std::fmt;
 use types::table::GIVEN;
 
@@ -45,14 +49,15 @@ pub struct Session {
     types: Vec<Entry>,
     scratch: Vec<u32>,
     bytes: Vec<u8>,
-    // how many nodes, from the first, are the rule
+    // How many nodes, from the first, are the rule, and how many entries are said to be in use. The script's commands set
+    // both apart from the tables, also to numbers that the tables do not have, so a table cut to its length would not do.
     rule: usize,
-    // how many entries of the type table are said to be in use
     count: usize,
     host: HostData,
 }
 
-// The answer to a command. What it shows of the tables is what they hold then.
+// The answer to a command. What it shows of the tables is what they hold then. A refusal is an answer too, and an error only
+// what is wrong with a line.
 #[derive(Clone, Copy)]
 pub enum Answer {
     Tables(Lengths),
@@ -64,7 +69,7 @@ pub enum Answer {
     Count(usize),
     Wrote(usize),
     Dump(Table),
-    Made(usize),
+    Made,
     Profile(u32),
     Said(Option<HostAnswer>),
     Refused(Refusal),
@@ -85,40 +90,50 @@ impl Session {
         }
     }
 
-    // Does what a command says. An error leaves the state as it was, unless memory ran out.
+    // Does what a command says. An error leaves the state as it was.
     pub fn perform(&mut self, command: Command) -> Result<Answer, LineError<'static>>
-        ensures kept { IfErr result (λ e. (e ≢ Memory) → self.new ≡ self.old) }
+        ensures kept { OnErr result (self.new ≡ self.old) }
     {
         match command {
             Command::Tables(lengths) => self.make_tables(lengths),
             Command::File(bytes) => Ok(self.set_file(bytes)),
-            Command::Load => Ok(self.load()),
+            Command::Load => Ok(self.load().unwrap_or_else(Answer::Refused)),
             Command::Nodes(nodes) => Ok(self.set_nodes(nodes)),
             Command::Types(entries) => self.set_types(entries.as_slice()),
             Command::Entry { place, entry } => self.set_entry(place, entry),
             Command::Count(count) => Ok(self.set_count(count)),
-            Command::Write => Ok(self.write()),
+            Command::Write => Ok(self.write().unwrap_or_else(Answer::Refused)),
             Command::Dump(table) => Ok(Answer::Dump(table)),
-            Command::Listing { today, versions } => Ok(self.set_host(HostData::Listing {
-                today,
-                versions,
-            })),
-            Command::Sheet { profile, lines } => Ok(self.set_host(HostData::Sheet {
-                profile,
-                lines,
-            })),
+            Command::Listing { today, versions } => {
+                let host = HostData::Listing { today, versions };
+                Ok(self.set_host(host).unwrap_or_else(Answer::Refused))
+            }
+            Command::Sheet { profile, lines } => {
+                let host = HostData::Sheet { profile, lines };
+                Ok(self.set_host(host).unwrap_or_else(Answer::Refused))
+            }
             Command::Profile => Ok(Answer::Profile(self.host.profile())),
             Command::Ask { question, number } => Ok(Answer::Said(self.host.ask(question, number))),
         }
     }
 
+    // Makes new tables, of these lengths and with their filler in every place.
     fn make_tables(&mut self, lengths: Lengths) -> Result<Answer, LineError<'static>>
+        ensures nodes { OnOk result (self.new.nodes.items ≡ replicate lengths.nodes (node Fst 9)) }
+        ensures types { OnOk result (self.new.types.items ≡ replicate lengths.types (entry Product 9 9)) }
+        ensures scratch { OnOk result (self.new.scratch.items ≡ replicate lengths.scratch NUMBER_FILLER) }
+        ensures bytes { OnOk result (self.new.bytes.items ≡ replicate lengths.bytes BYTE_FILLER) }
         ensures error { IfErr result (λ e. e ≡ Memory) }
+        ensures kept { OnErr result (self.new ≡ self.old) }
     {
-        refill(&mut self.nodes, NODE_FILLER, lengths.nodes)?;
-        refill(&mut self.types, ENTRY_FILLER, lengths.types)?;
-        refill(&mut self.scratch, NUMBER_FILLER, lengths.scratch)?;
-        refill(&mut self.bytes, BYTE_FILLER, lengths.bytes)?;
+        let nodes = vec![in self.heap; NODE_FILLER; lengths.nodes]?;
+        let types = vec![in self.heap; ENTRY_FILLER; lengths.types]?;
+        let scratch = vec![in self.heap; NUMBER_FILLER; lengths.scratch]?;
+        let bytes = vec![in self.heap; BYTE_FILLER; lengths.bytes]?;
+        self.nodes = nodes;
+        self.types = types;
+        self.scratch = scratch;
+        self.bytes = bytes;
         self.rule = 0;
         self.count = 0;
         Ok(Answer::Tables(lengths))
@@ -129,19 +144,15 @@ impl Session {
         Answer::File(self.file.len())
     }
 
-    fn load(&mut self) -> Answer {
-        match load(
+    fn load(&mut self) -> Result<Answer, Refusal> {
+        let loaded = load(
             self.file.as_slice(),
             self.nodes.as_mut_slice(),
             self.types.as_mut_slice(),
-        ) {
-            Ok(loaded) => {
-                self.rule = loaded.nodes;
-                self.count = loaded.count;
-                Answer::Loaded(loaded)
-            }
-            Err(refusal) => Answer::Refused(refusal),
-        }
+        )?;
+        self.rule = loaded.nodes;
+        self.count = loaded.count;
+        Ok(Answer::Loaded(loaded))
     }
 
     fn set_nodes(&mut self, nodes: Vec<Node>) -> Answer {
@@ -185,28 +196,22 @@ impl Session {
     }
 
     // A refusal leaves the host as it was.
-    fn set_host(&mut self, host: HostData) -> Answer {
-        match host.made() {
-            Ok(()) => {
-                self.host = host;
-                Answer::Made(self.host.len())
-            }
-            Err(refusal) => Answer::Refused(refusal),
-        }
+    fn set_host(&mut self, host: HostData) -> Result<Answer, Refusal> {
+        host.made()?;
+        self.host = host;
+        Ok(Answer::Made)
     }
 
-    fn write(&mut self) -> Answer {
+    fn write(&mut self) -> Result<Answer, Refusal> {
         let rule = self.rule.min(self.nodes.len());
         let nodes = self.nodes.as_slice();
-        match write(
+        let length = write(
             &nodes[0..rule],
             self.types.as_slice(),
             self.count,
             self.bytes.as_mut_slice(),
-        ) {
-            Ok(length) => Answer::Wrote(length),
-            Err(refusal) => Answer::Refused(refusal),
-        }
+        )?;
+        Ok(Answer::Wrote(length))
     }
 }
 
@@ -236,7 +241,7 @@ impl fmt::Display for AnswerLine<'_> {
             Answer::Count(count) => write!(f, "count {count}"),
             Answer::Wrote(length) => self.session.write_front(f, length),
             Answer::Dump(table) => self.session.write_table(f, table),
-            Answer::Made(length) => self.session.host.write_made(f, length),
+            Answer::Made => write!(f, "host {}", self.session.host),
             Answer::Profile(profile) => write!(f, "profile {profile:08x}"),
             Answer::Said(answer) => write!(f, "{}", AnswerWords(answer)),
             Answer::Refused(refusal) => write!(f, "{}", RefusalLine(refusal)),
@@ -261,13 +266,4 @@ impl Session {
             Table::Bytes => write!(f, "dump{}", Runs(self.bytes.as_slice())),
         }
     }
-}
-
-// Makes a table anew, of this length and with this in every place.
-fn refill<T: Copy>(table: &mut Vec<T>, filler: T, length: usize) -> Result<(), AllocError>
-    ensures { OnOk result (table.new.items ≡ replicate length filler) }
-{
-    table.clear();
-    table.resize(length, filler)?;
-    Ok(())
 }

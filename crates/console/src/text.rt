@@ -1,7 +1,7 @@
 // Texts that are read word by word, and messages about a word of one.
 use crate::failure::Failure;
-use std::alloc::{AllocError, Global};
-use std::fmt;
+use std::alloc::Global;
+use std::{fmt, iter};
 
 // A text and its name, for messages.
 #[derive(Clone, Copy)]
@@ -19,10 +19,7 @@ pub struct Position {
 
 // The line up to its comment, which begins with `#`.
 pub fn without_comment(line: &str) -> &str {
-    match line.split_once('#') {
-        Some((words, _)) => words,
-        None => line,
-    }
+    line.split_once('#').map_or(line, |(words, _)| words)
 }
 
 // The message about a word: the text's name, the word's line and column from 1, the word, and why.
@@ -31,31 +28,26 @@ pub fn at_word(
     text: Text<'_>,
     position: Position,
     why: impl fmt::Display + Drop,
-) -> Result<Failure, AllocError> {
-    let name = text.name;
-    let line = text.text.lines().nth(position.line).unwrap_or("");
+) -> Failure {
+    let Text { name, text } = text;
+    let line = text.lines().nth(position.line).unwrap_or("");
     let column = column_of(line, position.word);
     let word = without_comment(line)
         .split_whitespace()
         .nth(position.word)
         .unwrap_or("");
     let number = position.line.saturating_add(1);
-    Ok(Failure::Message(format!(in heap; "{name}:{number}:{column}: {word}: {why}")?))
+    Failure::told(format!(in heap; "{name}:{number}:{column}: {word}: {why}"))
 }
 
 // The column, in characters from 1, at which a word of the line begins.
 fn column_of(line: &str, word: usize) -> usize {
-    let mut begun = 0usize;
-    let mut inside = false;
-    for (i, c) in line.chars().enumerate() {
-        let dark = !c.is_whitespace();
-        if dark && !inside {
-            if begun == word {
-                return i.saturating_add(1);
-            }
-            begun = begun.saturating_add(1);
-        }
-        inside = dark;
-    }
-    1
+    let spaces = line.chars().map(|c| c.is_whitespace());
+    iter::once(true)
+        .chain(spaces)
+        .zip(line.chars())
+        .enumerate()
+        .filter(|(_, (after_space, c))| *after_space && !c.is_whitespace())
+        .nth(word)
+        .map_or(1, |(i, _)| i.saturating_add(1))
 }

@@ -2,11 +2,13 @@
 use calculus::entry::Entry;
 use calculus::form::Form;
 use calculus::kind::Kind;
+use calculus::mark::UnknownMark;
 use calculus::node::Node;
+use std::error::Error;
 use std::fmt;
 
 // Why a word cannot be read.
-#[derive(Clone, Copy)]
+#[derive(Clone, Copy, PartialEq, Eq, Debug)]
 pub enum WordError {
     Mark,
     NumberMissing,
@@ -33,55 +35,43 @@ impl fmt::Display for WordError {
     }
 }
 
+impl Error for WordError {}
+
+impl From<UnknownMark> for WordError {
+    fn from(_e: UnknownMark) -> WordError {
+        WordError::Mark
+    }
+}
+
 // The number that decimal digits say, and nothing else.
 pub fn decimal(digits: &str) -> Option<usize> {
     if digits.starts_with('+') {
         return None;
     }
-    digits.parse::<usize>().ok()
+    digits.parse().ok()
 }
 
 pub fn small_number(digits: &str) -> Result<u16, WordError> {
-    let Some(number) = decimal(digits) else {
-        return Err(WordError::Number);
-    };
-    match u16::try_from(number) {
-        Ok(number) => Ok(number),
-        Err(_) => Err(WordError::Number),
-    }
+    decimal(digits)
+        .and_then(|number| u16::try_from(number).ok())
+        .ok_or(WordError::Number)
 }
 
-// The kind with this mark; two hyphens are a blank's.
-fn kind_of(mark: &str) -> Option<Kind> {
-    let [a, b] = mark.as_bytes() else {
-        return None;
-    };
-    match Kind::of_mark(*a, *b) {
-        Kind::Blank if mark != "--" => None,
-        kind => Some(kind),
-    }
+// The mark of a word, and what follows it.
+fn split_mark(word: &str) -> Result<([u8; 2], &str), WordError> {
+    let (mark, digits) = word.split_at_checked(2).ok_or(WordError::Mark)?;
+    let mark = mark.as_bytes().as_array::<2>().ok_or(WordError::Mark)?;
+    Ok((*mark, digits))
 }
 
-// The form with this mark, of the three that a file does not name too; two hyphens are a blank's.
-fn form_of(mark: &str) -> Option<Form> {
-    match mark {
-        "--" => Some(Form::Blank),
-        "TN" => Some(Form::Nat),
-        "TU" => Some(Form::Unit),
-        "TV" => Some(Form::Void),
-        "TF" => Some(Form::Function),
-        "TP" => Some(Form::Product),
-        "TS" => Some(Form::Sum),
-        _ => None,
-    }
+fn form_of(word: &str) -> Result<Form, WordError> {
+    let (mark, _) = split_mark(word)?;
+    Ok(Form::try_from(mark)?)
 }
 
 // Whether the word's mark is one of a type, and not a blank's.
 pub fn is_type_word(word: &str) -> bool {
-    match word.split_at_checked(2) {
-        Some((mark, _)) => mark != "--" && form_of(mark).is_some(),
-        None => false,
-    }
+    form_of(word).is_ok_and(|form| form != Form::Blank)
 }
 
 // Whether a node of this kind is written with its number also where that is 0.
@@ -97,7 +87,8 @@ fn has_numbers(form: Form) -> bool {
     matches!(form, Form::Function | Form::Product | Form::Sum)
 }
 
-// What is written as a word.
+// What is written as a word. The words are this program's and the types are those of crates below, in which alone std's
+// FromStr and Display could be written for them: hence this trait, and the wrappers that show a node and an entry.
 pub trait Worded {
     // The value that a word says.
     fn of_word(word: &str) -> Result<Self, WordError>;
@@ -105,45 +96,33 @@ pub trait Worded {
 
 impl Worded for Node {
     fn of_word(word: &str) -> Result<Node, WordError> {
-        let Some((mark, digits)) = word.split_at_checked(2) else {
-            return Err(WordError::Mark);
+        let (mark, digits) = split_mark(word)?;
+        let kind = Kind::try_from(mark)?;
+        let number = match digits {
+            "" if has_number(kind) => return Err(WordError::NumberMissing),
+            "" => 0,
+            _ => small_number(digits)?,
         };
-        let Some(kind) = kind_of(mark) else {
-            return Err(WordError::Mark);
-        };
-        if !digits.is_empty() {
-            let number = small_number(digits)?;
-            return Ok(Node { kind, number });
-        }
-        if has_number(kind) {
-            return Err(WordError::NumberMissing);
-        }
-        Ok(Node { kind, number: 0 })
+        Ok(Node { kind, number })
     }
 }
 
 impl Worded for Entry {
     fn of_word(word: &str) -> Result<Entry, WordError> {
-        let Some((mark, digits)) = word.split_at_checked(2) else {
-            return Err(WordError::Mark);
+        let (mark, digits) = split_mark(word)?;
+        let form = Form::try_from(mark)?;
+        let (left, right) = match digits {
+            "" if !has_numbers(form) => (0, 0),
+            _ => two_numbers(digits)?,
         };
-        let Some(form) = form_of(mark) else {
-            return Err(WordError::Mark);
-        };
-        if digits.is_empty() && !has_numbers(form) {
-            return Ok(Entry {
-                form,
-                left: 0,
-                right: 0,
-            });
-        }
-        let Some((left, right)) = digits.split_once('/') else {
-            return Err(WordError::NumbersMissing);
-        };
-        let left = small_number(left)?;
-        let right = small_number(right)?;
         Ok(Entry { form, left, right })
     }
+}
+
+// The two type numbers of a word such as 0/6.
+fn two_numbers(digits: &str) -> Result<(u16, u16), WordError> {
+    let (left, right) = digits.split_once('/').ok_or(WordError::NumbersMissing)?;
+    Ok((small_number(left)?, small_number(right)?))
 }
 
 // The length of a new table.
@@ -152,10 +131,10 @@ pub struct Length(pub usize);
 
 impl Worded for Length {
     fn of_word(word: &str) -> Result<Length, WordError> {
-        match decimal(word) {
-            Some(length) if length <= 1_000_000 => Ok(Length(length)),
-            _ => Err(WordError::Length),
-        }
+        decimal(word)
+            .filter(|length| *length <= 1_000_000)
+            .map(Length)
+            .ok_or(WordError::Length)
     }
 }
 

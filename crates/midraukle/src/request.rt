@@ -1,5 +1,6 @@
 // What the arguments of the program ask for.
 
+// A request is read before anything is done, so it is a value and no closure.
 #[derive(Clone, Copy)]
 pub enum Request<'a> {
     Example,
@@ -26,49 +27,25 @@ pub enum Request<'a> {
 }
 
 // The request that the arguments say, the program's name left out.
-pub fn request_of<'a>(args: &'a [String]) -> Request<'a> {
+pub fn request_of<'a>(args: &[&'a str]) -> Request<'a> {
     match args {
         [] => Request::Example,
-        [command] => alone(command.as_str()),
-        [command, first] => with_one(command.as_str(), first.as_str()),
-        [command, first, second] => with_two(command.as_str(), first.as_str(), second.as_str()),
-        [command, ..] => unreadable(command.as_str()),
-    }
-}
-
-fn alone<'a>(command: &'a str) -> Request<'a> {
-    match command {
-        "script" => Request::Script,
-        "help" | "--help" | "-h" => Request::Help,
-        _ => unreadable(command),
-    }
-}
-
-fn with_one<'a>(command: &'a str, first: &'a str) -> Request<'a> {
-    match command {
-        "show" => Request::Show { rule: first },
-        "explain" => Request::Explain { number: first },
-        _ => unreadable(command),
-    }
-}
-
-fn with_two<'a>(command: &'a str, first: &'a str, second: &'a str) -> Request<'a> {
-    match command {
-        "assemble" => Request::Assemble {
-            text: first,
-            out: second,
+        ["show", rule] => Request::Show { rule },
+        ["assemble", text, out] => Request::Assemble { text, out },
+        ["listing", listing, today] => Request::Listing { listing, today },
+        ["script"] => Request::Script,
+        ["explain", number] => Request::Explain { number },
+        ["help" | "--help" | "-h"] => Request::Help,
+        [command, ..] => Request::Unreadable {
+            command,
+            usage: usage_of(command),
         },
-        "listing" => Request::Listing {
-            listing: first,
-            today: second,
-        },
-        _ => unreadable(command),
     }
 }
 
-// The arguments do not fit the command, or there is no such command.
-fn unreadable<'a>(command: &'a str) -> Request<'a> {
-    let usage = match command {
+// What a command's arguments have to be, or which commands there are where this is none.
+fn usage_of(command: &str) -> &'static str {
+    match command {
         "show" => "one argument was expected: midraukle show RULE",
         "assemble" => "two arguments were expected: midraukle assemble TEXT OUT",
         "listing" => "two arguments were expected: midraukle listing LISTING TODAY",
@@ -76,6 +53,5 @@ fn unreadable<'a>(command: &'a str) -> Request<'a> {
         "explain" => "one argument was expected: midraukle explain NUMBER",
         "help" | "--help" | "-h" => "no argument was expected: midraukle help",
         _ => "no such command; there are show, assemble, listing, script, explain and help",
-    };
-    Request::Unreadable { command, usage }
+    }
 }

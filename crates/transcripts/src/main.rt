@@ -2,9 +2,9 @@
 #![tactic(auto)]
 
 use console::assembly::assemble;
-use console::failure::Failure;
+use console::failure::{Failure, status_of};
 use console::hexadecimal::Hex;
-use console::listing_text::{listing_table, versions_of};
+use console::listing_text::listing_table;
 use console::readable::description;
 use console::rule::Rule;
 use console::script::play;
@@ -14,13 +14,7 @@ use std::process::ExitCode;
 use std::{env, fs};
 
 fn main(rt: HostRuntime) -> ExitCode {
-    match run(&rt) {
-        Ok(()) => ExitCode::SUCCESS,
-        Err(failure) => {
-            let _ = eprintln!(rt; "transcripts: {failure}");
-            ExitCode::FAILURE
-        }
-    }
+    status_of(&rt, "transcripts", run(&rt))
 }
 
 fn run(rt: &HostRuntime) -> Result<(), Failure> {
@@ -39,18 +33,17 @@ fn run(rt: &HostRuntime) -> Result<(), Failure> {
 
 // The file that a text says, in hexadecimal, and the rule that it says; or why there is none.
 fn show_text(rt: &HostRuntime, name: &str) -> Result<(), Failure> {
-    let text = fs::read_to_string(rt, name)?;
-    match assemble(
-        rt.alloc(),
-        Text {
-            name,
-            text: text.as_str(),
-        },
-    ) {
-        Ok(file) => {
-            println!(rt; "{}", Hex(file.as_slice()))?;
-            let rule = Rule::of_file(rt.alloc(), name, file.as_slice())?;
-            print!(rt; "{}", description(rt.alloc(), &rule)?)?;
+    let heap = rt.alloc();
+    let file = fs::read_to_string(rt, name)?;
+    let text = Text {
+        name,
+        text: file.as_str(),
+    };
+    match assemble(heap, text) {
+        Ok(bytes) => {
+            println!(rt; "{}", Hex(bytes.as_slice()))?;
+            let rule = Rule::of_file(heap, name, bytes.as_slice())?;
+            print!(rt; "{}", description(heap, &rule)?)?;
         }
         Err(failure) => println!(rt; "{failure}")?,
     }
@@ -59,18 +52,14 @@ fn show_text(rt: &HostRuntime, name: &str) -> Result<(), Failure> {
 
 // The table of a listing, or why there is none.
 fn show_listing(rt: &HostRuntime, name: &str) -> Result<(), Failure> {
-    let text = fs::read_to_string(rt, name)?;
-    match versions_of(
-        rt.alloc(),
-        Text {
-            name,
-            text: text.as_str(),
-        },
-    ) {
-        Ok(versions) => print!(rt;
-            "{}",
-            listing_table(rt.alloc(), name, versions.as_slice(), 300)?
-        )?,
+    let heap = rt.alloc();
+    let file = fs::read_to_string(rt, name)?;
+    let text = Text {
+        name,
+        text: file.as_str(),
+    };
+    match listing_table(heap, text, 300) {
+        Ok(table) => print!(rt; "{table}")?,
         Err(failure) => println!(rt; "{failure}")?,
     }
     Ok(())
