@@ -1,7 +1,7 @@
 // Check: whether a rule has a type.
 ghost use Rattle.std.specs.Prelude.{◌≡◌, ◌-◌, ◌≤◌, true, false, ◌++◌, length, take, replicate, MatchResult};
 ghost use Rattle.calculus.specs.Forms.{empty};
-ghost use Rattle.checker.specs.Checking.{in_check, zeros, Checkable, Uncheckable, AcceptCall, RejectCall, RefuseCall, Exactly};
+ghost use Rattle.checker.specs.Checking.{zeros, Checkable, Uncheckable, AcceptCall, RejectCall, RefuseCall, Exactly};
 
 use crate::acceptance::Acceptance;
 use crate::machine::judge_nodes;
@@ -10,13 +10,6 @@ use calculus::node::Node;
 use hosts::host::Host;
 use refusals::{Layer, Question, Refusal};
 use types::table::counts_fit;
-
-// The refusal of a question by check.
-fn refused(question: Question) -> Refusal
-    ensures value { result ≡ in_check question }
-{
-    Layer::Check.refuse(question)
-}
 
 // Questions 10 to 13. A place has 16 bits, so `as` loses nothing: TryFrom would add an error that never comes.
 fn admit(nodes: &[Node], types: &[Entry], count: usize, words: usize) -> Result<(), Question>
@@ -88,8 +81,10 @@ pub fn check<'a, H: Host>(
     ensures exactly { MatchResult result (λ a. Exactly nodes.now types.old count (length scratch.old) (H.meaning host.old).profile true (take a.count types.new)) (λ e. Exactly nodes.now types.old count (length scratch.old) (H.meaning host.old).profile false (take count types.new)) }
     ensures kept { H.meaning host.new ≡ H.meaning host.old }
 {
-    admit(nodes, types, count, scratch.len()).map_err(refused)?;
+    admit(nodes, types, count, scratch.len()).map_err(|question| Layer::Check.refuse(question))?;
     let profile = host.profile();
-    let (type_number, grown) = judge_rule(nodes, profile, types, count, scratch).map_err(refused)?;
+    let (type_number, grown) = judge_rule(nodes, profile, types, count, scratch).map_err(
+        |question| Layer::Check.refuse(question),
+    )?;
     Ok(Acceptance::new(nodes, type_number, grown, profile))
 }

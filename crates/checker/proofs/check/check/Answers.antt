@@ -1,4 +1,4 @@
-use Rattle.std.proofs.Common.{◌≡◌, ℕ, length, take, sym, refl, ◌∙◌, subst, Ok}
+use Rattle.std.proofs.Common.{◌≡◌, ℕ, length, take, sym, refl, ◌∙◌, subst, Ok, rules}
 use Rattle.std.specs.Result.{MatchResult, IsErrAnd}
 use Rattle.std.proofs.lemmas.Result.{err_from_is_err_and}
 use Rattle.refusals.specs.declared.Refusal.{Refusal}
@@ -14,7 +14,7 @@ returns-in_err-map_err g c =
     let C = c.args.count in
     let P = (g.H.Host.meaning c.args.host.now).profile in
     let p = err_from_is_err_and c.from_residual.result c.from_residual.ensures.1 in
-    let k : MatchResult c.admit.result (λ x. c.map_err.result ≡ Ok x) (λ q. IsErrAnd c.map_err.result (λ d. d ≡ in_check q)) = c.map_err.ensures.cases in
+    let k : MatchResult c.admit.result (λ x. c.map_err.result ≡ Ok x) (λ q. IsErrAnd c.map_err.result (λ d. d ≡ in_check q)) = search rules in
     let a = asked (λ _. Checkable N T C (length S)) (λ q. Uncheckable N T C (length S) q) c.admit.result c.map_err.result
     c.in_err-map_err.field-0.0 k c.admit.ensures.first c.in_err-map_err.was in
     record {
@@ -33,7 +33,7 @@ returns-in_err-type_number g c =
     let T' = c.judge_rule.new.types in
     let S' = c.judge_rule.new.scratch in
     let p = err_from_is_err_and c.from_residual-in_err-type_number.result c.from_residual-in_err-type_number.ensures.1 in
-    let k : MatchResult c.judge_rule.result (λ x. c.map_err-2.result ≡ Ok x) (λ q. IsErrAnd c.map_err-2.result (λ d. d ≡ in_check q)) = c.map_err-2.ensures.cases in
+    let k : MatchResult c.judge_rule.result (λ x. c.map_err-2.result ≡ Ok x) (λ q. IsErrAnd c.map_err-2.result (λ d. d ≡ in_check q)) = search rules in
     let a = asked (λ a. AcceptCall N T C (length S) c.profile-profile.result a.0 a.1 T' S')
     (λ q. RejectCall N T C (length S) c.profile-profile.result q T' S') c.judge_rule.result c.map_err-2.result
     c.in_err-type_number.field-0.0 k c.judge_rule.ensures.judged c.in_err-type_number.was in
@@ -55,7 +55,7 @@ new-requires g c =
     let S' = c.judge_rule.new.scratch in
     let n = c.in_ok-type_number.type_number in
     let m = c.in_ok-type_number.grown in
-    let k : MatchResult c.judge_rule.result (λ x. c.map_err-2.result ≡ Ok x) (λ q. IsErrAnd c.map_err-2.result (λ d. d ≡ in_check q)) = c.map_err-2.ensures.cases in
+    let k : MatchResult c.judge_rule.result (λ x. c.map_err-2.result ≡ Ok x) (λ q. IsErrAnd c.map_err-2.result (λ d. d ≡ in_check q)) = search rules in
     accepted_rule N T C W P n m T' S'
     (answered (λ a. AcceptCall N T C W P a.0 a.1 T' S') (λ q. RejectCall N T C W P q T' S') c.judge_rule.result c.map_err-2.result
     (n, m) k c.judge_rule.ensures.judged c.in_ok-type_number.was)
@@ -71,7 +71,7 @@ returns-clause-exactly g c =
     let S' = c.judge_rule.new.scratch in
     let n = c.in_ok-type_number.type_number in
     let m = c.in_ok-type_number.grown in
-    let k : MatchResult c.judge_rule.result (λ x. c.map_err-2.result ≡ Ok x) (λ q. IsErrAnd c.map_err-2.result (λ d. d ≡ in_check q)) = c.map_err-2.ensures.cases in
+    let k : MatchResult c.judge_rule.result (λ x. c.map_err-2.result ≡ Ok x) (λ q. IsErrAnd c.map_err-2.result (λ d. d ≡ in_check q)) = search rules in
     let a = answered (λ a. AcceptCall N T C W P a.0 a.1 T' S') (λ q. RejectCall N T C W P q T' S') c.judge_rule.result
     c.map_err-2.result (n, m) k c.judge_rule.ensures.judged c.in_ok-type_number.was in
     exactly_accepted N T C W (g.H.Host.meaning c.args.host.now).profile _ _ T' S'
