@@ -37,6 +37,7 @@ impl<'a> Binders<'a> {
     {
         let outward = usize::from(index);
         if outward < self.depth {
+            // (as: it is below 65,536, and try_from would add an error that never comes)
             Some(self.words[self.depth - 1 - outward] as u16)
         } else {
             None

@@ -22,9 +22,11 @@ fn admit(nodes: &[Node], types: &[Entry], count: usize, words: usize) -> Result<
         return Err(Question::CheckRoom);
     }
     if let Some(k) = types::table::first_fault(&types[0..count]) {
+        // (as: it is below 65,536, and try_from would add an error that never comes)
         return Err(Question::EntryLaid { place: k as u16 });
     }
     if let Some(k) = terms::first_fault(nodes, count) {
+        // (as: it is below 65,536, and try_from would add an error that never comes)
         return Err(Question::OneTerm { place: k as u16 });
     }
     Ok(())
@@ -40,6 +42,7 @@ fn clear(types: &mut [Entry], from: usize, numbers: &mut [u32])
     numbers.fill(0);
 }
 
+// (What check lends stays apart here too: a struct would be made for this one call.)
 // Questions 20 to 24: the number of the rule's type and the count of entries by then, or the first no. The scratch list is
 // left with zeros, and the type table with blanks past its entries.
 fn judge_rule(

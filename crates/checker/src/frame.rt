@@ -13,7 +13,8 @@ pub enum Awaits {
     Third(u16),
 }
 
-// An unfinished node: its place, what it waits for, and whether that child stands under a binder of the node.
+// An unfinished node: its place, what it waits for, and whether that child stands under a binder of the node. (A flag, and
+// no case of Awaits: each of the three may stand under a binder or not.)
 #[derive(Clone, Copy)]
 pub struct Frame {
     pub place: u16,
@@ -112,6 +113,7 @@ impl<'a> Stack<'a> {
         }
         let top = self.depth - 1;
         self.depth = top;
+        // (as: it is below 65,536, and try_from would add an error that never comes)
         let place = self.words[3 * top] as u16;
         let kept = self.words[3 * top + 2] as u16;
         Some(Frame::coded(place, self.words[3 * top + 1], kept))

@@ -18,7 +18,8 @@ use rewriter::rewrite::rewrite;
 use rewriter::site::Redex;
 
 // Steps the term that the run holds in front until it is a value or stuck, the fuel is spent or the next term is longer than
-// the table. Each next term is written to back and copied to front; `depths` is scratch of the substitution.
+// the table. Each next term is written to back and copied to front; `depths` is scratch. (What run is lent stays apart in
+// the functions below it: a struct would be made for one call, and taken apart there.)
 fn step_on<H: Host>(
     fuel: u32,
     held: Held,

@@ -34,6 +34,7 @@ pub(crate) fn closed_term<'a>(
 {
     let term = &front[..count];
     match closed_fault(term, depths) {
+        // (as: it is below 65,536, and try_from would add an error that never comes)
         Some(k) => Err(Question::ClosedTerm { place: k as u16 }),
         None => Ok(term),
     }

@@ -44,7 +44,8 @@ impl Keyed<Asked> for Line {
     }
 }
 
-// The digit of a question in a profile, or 0 for a question above 7.
+// The digit of a question in a profile, or 0 for a question above 7. (A number: a profile is lent as eight digits, also one
+// that no sheet may have; shape_of has the shape.)
 pub fn digit_of(profile: u32, question: u16) -> u32
     ensures value { result ≡ question_digit profile question }
 {
@@ -87,7 +88,8 @@ pub fn answer_in_shape(shape: Shape, a: u16, b: u16) -> Answer
     }
 }
 
-// The answer of a and b in the shape that a digit stands for, or none where it stands for none.
+// The answer of a and b in the shape that a digit stands for, or none where it stands for none. (For callers that have a
+// digit; answer_in_shape has the shape.)
 pub fn answer_of(digit: u32, a: u16, b: u16) -> Option<Answer>
     ensures value { result ≡ answer_in (digit_shape digit) a b }
 {
@@ -108,7 +110,8 @@ pub fn fits_shape(shape: Shape, a: u16, b: u16) -> bool
     }
 }
 
-// Whether a and b are an answer in the shape that a digit stands for.
+// Whether a and b are an answer in the shape that a digit stands for. (For callers that have a digit; fits_shape has the
+// shape.)
 pub fn is_legal(digit: u32, a: u16, b: u16) -> bool
     ensures value { result ≡ legal (digit_shape digit) a b }
 {

@@ -59,6 +59,7 @@ impl<'a> Host for Listing<'a> {
         if number > LARGEST_ASKED {
             return None;
         }
+        // (as: it is below 65,536, and try_from would add an error that never comes)
         match question {
             0 => Some(Answer::Number(self.versions.len() as u16)),
             1 => Some(reading::age_of(self.versions, self.today, number)),

@@ -43,6 +43,7 @@ fn line_fault(profile: u32, lines: &[Line]) -> Result<(), Question>
     ensures first { MatchResult result (λ _. LegalBelow profile lines.now (length lines.now)) (λ q. LineFault profile lines.now q) }
 {
     for (i, line) in lines.iter().enumerate() {
+        // (as: it is below 65,536, and try_from would add an error that never comes)
         let place = i as u16;
         if !is_legal_line(profile, line) {
             return Err(Question::LineLegal { place });

@@ -28,7 +28,7 @@ impl Layer {
         }
     }
 
-    // The layer's number: 1 to 4.
+    // The layer's number: 1 to 4. (A report says it, so it has a name of its own.)
     fn number(self) -> u8
         ensures value { result ≡ layer_number_lem self }
     {

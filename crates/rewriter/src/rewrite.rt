@@ -22,7 +22,7 @@ use hosts::host::Host;
 use hosts::reply::put_answer;
 
 // Writes what a recursion over a successor becomes: an application of `step`, with `number` in place of its variable, to
-// the recursion over `number`. That recursion's parts stand in a row in `parts`.
+// the recursion over `number`. That recursion's parts stand in a row in `parts`. (Three parts of the table, lent apart.)
 fn unroll<const N: usize>(
     number: &[Node],
     step: &[Node],
@@ -116,7 +116,8 @@ fn replace<H: Host, const N: usize>(
 
 // Writes the next term of the term in `front` to the front of `back`: the nodes before its redex, what the redex becomes,
 // and the nodes after it. Answers its length, or none where it is longer than `back`. The host is asked only for the
-// answer of a query that is the redex. `depths` is scratch.
+// answer of a query that is the redex. `depths` is scratch. (The table, the stack and the host are the caller's, and lent
+// apart.)
 pub fn rewrite<H: Host, const N: usize>(
     front: &[Node],
     site: Site,

@@ -158,6 +158,7 @@ impl<'a> Sections<'a> {
     {
         let mut table = Table::given();
         for (i, six) in self.types.iter().enumerate() {
+            // (as: it is below 65,536, and try_from would add an error that never comes)
             let entry = read_entry((1 + i) as u16, table.entries(), six)?;
             table.push(entry);
         }
@@ -172,12 +173,14 @@ impl<'a> Sections<'a> {
         let types = GIVEN.len() + self.types.len();
         let mut pending = 1;
         for (i, six) in self.nodes.iter().enumerate() {
+            // (as: it is below 65,536, and try_from would add an error that never comes)
             let node = read_node((first + i) as u16, types, pending, six)?;
             pending = pending - 1 + node.kind.children();
         }
         if pending == 0 {
             return Ok(());
         }
+        // (as: it is below 65,536, and try_from would add an error that never comes)
         let place = (first + self.nodes.len()) as u16;
         Err(Question::TermEnded { place })
     }

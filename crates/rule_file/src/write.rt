@@ -106,9 +106,11 @@ impl<'a> Tables<'a> {
         }
         let entries = &types[..count];
         if let Some(k) = types::table::first_fault(entries) {
+            // (as: it is below 65,536, and try_from would add an error that never comes)
             return Err(Question::EntryLaid { place: k as u16 });
         }
         if let Some(k) = terms::first_fault(nodes, count) {
+            // (as: it is below 65,536, and try_from would add an error that never comes)
             return Err(Question::OneTerm { place: k as u16 });
         }
         let tables = Tables { entries, nodes };
@@ -131,6 +133,7 @@ impl<'a> Tables<'a> {
         ensures { bytes.new ≡ file_of self.now.entries.now self.now.nodes.now ++ drop (file_length (length self.now.entries.now) (length self.now.nodes.now)) bytes.old }
     {
         let added = &self.entries[GIVEN.len()..];
+        // (as: it is below 65,536, and try_from would add an error that never comes)
         let head = Head {
             types: added.len() as u16,
             nodes: self.nodes.len() as u16,

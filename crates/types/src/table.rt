@@ -97,6 +97,7 @@ pub fn add(types: &mut [Entry], count: usize, entry: Entry) -> (u16, usize)
     ensures count { result.1 ≡ length (with_entry (take count types.old) entry) }
     ensures after { types.new ≡ with_entry (take count types.old) entry ++ drop result.1 types.old }
 {
+    // (as: it is below 65,536, and try_from would add an error that never comes)
     if let Some(i) = first_with_key(&types[..count], &entry) {
         return (i as u16, count);
     }
