@@ -12,6 +12,7 @@ pub struct Workload {
     pub file: Vec<u8>,
     nodes: Vec<Node>,
     types: Vec<Entry>,
+    // as write is given it: the table is longer than its entries
     count: usize,
     bytes: Vec<u8>,
 }

@@ -131,7 +131,8 @@ impl<'n, 's, 'b> Machine<'n, 's, 'b> {
     }
 }
 
-// The type of the rule and the count of entries by then, or the first question of 20 to 24 that is answered no.
+// The type of the rule and the count of entries by then, or the first question of 20 to 24 that is answered no. (The lists are
+// lent one by one, as check is lent them.)
 pub fn judge_nodes(
     nodes: &[Node],
     profile: u32,

@@ -14,7 +14,7 @@ use calculus::node::Node;
 use refusals::{Layer, Question, Refusal};
 use std::marker::Model;
 use terms::is_in_range;
-use types::table::{GIVEN, is_new};
+use types::table::{GIVEN, MOST_NODES, is_new};
 
 // What load answers: how many nodes the rule has, and how many entries its type table has.
 #[derive(Clone, Copy, PartialEq, Eq, Debug)]
@@ -23,15 +23,14 @@ pub struct Loaded {
     pub count: usize,
 }
 
-// The most type records and nodes of a file.
+// The most type records of a file.
 const MOST_TYPES: usize = 1024;
-
-const MOST_NODES: usize = 4096;
 
 // The most entries of a type table that a file can say: the given six, and one of each type record.
 const MOST_ENTRIES: usize = GIVEN.len() + MOST_TYPES;
 
-// A type table in the making: its entries stand at the front of a fixed array.
+// A type table in the making. Its entries stand at the front of a fixed array, since load uses no heap and the caller's table is
+// left alone until every question is answered yes.
 #[derive(Drop)]
 struct Table {
     entries: [Entry; MOST_ENTRIES],
