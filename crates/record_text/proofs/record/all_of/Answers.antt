@@ -8,5 +8,5 @@ loop-record-preserved g c =
     let d : Record = record { mark = []; first = 0; second = 0 } in
     let x : Record = get_or c.args.records.now c.loop-record.record-index d in
     all_zip_step (λ r y. g.T.TryFrom.try_from_gives r (Ok y)) c.args.records.now c.loop-record.all.items
-        c.push.new.self.items c.loop-record.record-index d c.in_ok-try_from.field-0 (search rules) c.loop-record.invariant
-        (subst (λ r. g.T.TryFrom.try_from_gives x r) c.in_ok-try_from.was c.try_from.ensures) (search rules)
+    c.push.new.self.items c.loop-record.record-index d c.in_ok-try_from.field-0 (search rules) c.loop-record.invariant
+    (subst (λ r. g.T.TryFrom.try_from_gives x r) c.in_ok-try_from.was c.try_from.ensures) (search rules)
