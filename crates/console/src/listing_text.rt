@@ -18,7 +18,7 @@ struct LineFault {
 }
 
 // The versions that a text says, or a message about the first word at fault.
-fn versions_of(heap: Global, text: Text<'_>) -> Result<Vec<Version>, Failure> {
+pub fn versions_of(heap: Global, text: Text<'_>) -> Result<Vec<Version>, Failure> {
     let mut versions = Vec::new(heap);
     for (line, words) in text.text.lines().enumerate() {
         let version = version_in(words).map_err(|fault| {
@@ -60,13 +60,15 @@ fn numbers_in(line: &str) -> Result<Option<[u16; 4]>, LineFault> {
     }
 }
 
-// The table of the listing that a text says: the host's count and profile, and a line for each version with its place, its
-// age, whether it is withdrawn, its line and its patch.
-pub fn listing_table(heap: Global, text: Text<'_>, today: u16) -> Result<String, Failure> {
-    let versions = versions_of(heap, text)?;
-    let name = text.name;
+// The host's count and profile, and a line for each version: its place, its age, whether it is withdrawn, its line and patch.
+pub fn listing_table(
+    heap: Global,
+    name: &str,
+    versions: &[Version],
+    today: u16,
+) -> Result<String, Failure> {
     let mut host = Listing::empty();
-    host.make(versions.as_slice(), today).map_err(|refusal| {
+    host.make(versions, today).map_err(|refusal| {
         Failure::told(format!(in heap; "{name}: {}", RefusalLine(refusal)))
     })?;
     let profile = host.profile();

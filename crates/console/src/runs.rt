@@ -4,7 +4,8 @@ use calculus::entry::Entry;
 use calculus::node::Node;
 use std::fmt;
 
-// What a table may hold.
+// What a table may hold. (No Display: a byte is shown as two hexadecimal digits here, and nodes and entries are types of another
+// crate.)
 pub trait TableItem: Copy + PartialEq {
     // Writes the word that stands for it.
     fn write_word<W: fmt::Write>(&self, f: &mut fmt::Formatter<W>) -> fmt::Result;

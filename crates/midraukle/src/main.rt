@@ -7,7 +7,7 @@ use console::assembly::assemble;
 use console::example::example;
 use console::failure::{Failure, status_of};
 use console::help::HELP;
-use console::listing_text::listing_table;
+use console::listing_text::{listing_table, versions_of};
 use console::messages::{Explanation, question_numbered};
 use console::readable::description;
 use console::rule::Rule;
@@ -60,7 +60,11 @@ fn show_listing(rt: &HostRuntime, name: &str, today: &str) -> Result<(), Failure
         name,
         text: file.as_str(),
     };
-    print!(rt; "{}", listing_table(rt.alloc(), text, day)?)?;
+    let versions = versions_of(rt.alloc(), text)?;
+    print!(rt;
+        "{}",
+        listing_table(rt.alloc(), name, versions.as_slice(), day)?
+    )?;
     Ok(())
 }
 

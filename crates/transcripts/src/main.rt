@@ -4,7 +4,7 @@
 use console::assembly::assemble;
 use console::failure::{Failure, status_of};
 use console::hexadecimal::Hex;
-use console::listing_text::listing_table;
+use console::listing_text::{listing_table, versions_of};
 use console::readable::description;
 use console::rule::Rule;
 use console::script::play;
@@ -58,8 +58,8 @@ fn show_listing(rt: &HostRuntime, name: &str) -> Result<(), Failure> {
         name,
         text: file.as_str(),
     };
-    match listing_table(heap, text, 300) {
-        Ok(table) => print!(rt; "{table}")?,
+    match versions_of(heap, text) {
+        Ok(versions) => print!(rt; "{}", listing_table(heap, name, versions.as_slice(), 300)?)?,
         Err(failure) => println!(rt; "{failure}")?,
     }
     Ok(())
