@@ -25,7 +25,8 @@ impl Form {
         self as u8
     }
 
-    // The two letters that stand for the form. A file has only those of the three forms that join two types.
+    // The two letters that stand for the form. A file has only those of the three forms that join two types. (A From for two
+    // bytes would say no more, and hide that they are the mark.)
     pub fn mark(self) -> [u8; 2]
         ensures { result ≡ form_mark self }
     {

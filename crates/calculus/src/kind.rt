@@ -34,7 +34,8 @@ impl Kind {
         self as u8
     }
 
-    // The two letters that stand for the kind in a file; a blank has two hyphens, which no file has.
+    // The two letters that stand for the kind in a file; a blank has two hyphens, which no file has. (A From for two bytes would
+    // say no more, and hide that they are the mark.)
     pub fn mark(self) -> [u8; 2]
         ensures { result ≡ kind_mark self }
     {

@@ -26,6 +26,7 @@ const OTHER_NOISE: Entry = Entry {
 // What stands in a scratch list before a call.
 const WORD_NOISE: u32 = 0xffff_ffff;
 
+// (One line: a shared function would say type and way at each call.)
 fn entries_of(heap: Global, text: &str) -> Result<Vec<Entry>, TextError> {
     all_of(heap, &records(heap, text, Rising::Second)?)
 }
@@ -66,6 +67,7 @@ impl Memory {
 #[derive(Clone, Copy)]
 pub struct Trial<'a> {
     pub nodes: &'a [Node],
+    // the table is longer than its entries
     pub count: usize,
     pub due: Due,
 }

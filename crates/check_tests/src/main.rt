@@ -25,6 +25,7 @@ use std::alloc::Global;
 // The profile of a listing.
 const LISTING: u32 = 0x4231;
 
+// (One line: a shared function would say type and way at each call.)
 fn nodes_of(heap: Global, rule: &str) -> Result<Vec<Node>, TextError> {
     all_of(heap, &records(heap, rule, Rising::Second)?)
 }

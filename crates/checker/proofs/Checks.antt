@@ -1,5 +1,5 @@
 -- What the outcome of the machine says of the rule, and exactly when a rule is accepted. Assumes nothing.
-use Rattle.std.proofs.Common.{◌≡◌, ℕ, suc, ◌-◌, ◌≤◌, true, false, List, [], ◌++◌, length, take, drop, replicate, sym, refl, ap, ◌∙◌, subst, arith, ltb-true, Ok, Err, Result}
+use Rattle.std.proofs.Common.{◌≡◌, ℕ, suc, ◌-◌, ◌≤◌, true, false, List, [], ◌++◌, length, take, drop, replicate, sym, refl, ap, ◌∙◌, subst, arith, ltb-true, Ok, Err, Result, zero, ◌∷◌, get_or}
 use Rattle.std.specs.Result.{MatchResult, IsErrAnd}
 use Rattle.std.proofs.lemmas.Result.{MatchResult-at_ok, MatchResult-at_err, err_from_is_err_and}
 use Rattle.std.proofs.lemmas.List.{length-take-le, take_at, take-append-drop}
@@ -19,6 +19,16 @@ use Rattle.checker.specs.Meaning.{Means}
 use Rattle.types.proofs.Laid.{laid_front}
 use Rattle.checker.specs.Checking.{Checkable, Uncheckable, counts_unfit, no_room, entry_at_fault, node_at_fault, in_check, zeros, AcceptCall, RejectCall, Exactly}
 use Rattle.checker.proofs.OutcomeMeans.{judge_means}
+
+-- where each place of a joined list reads 0, so does each place of its parts
+get_or_front : (xs ys : List ℕ) (i : ℕ) → ((j : ℕ) → get_or (xs ++ ys) j 0 ≡ 0) → get_or xs i 0 ≡ 0
+get_or_front [] ys i z = refl
+get_or_front (x ∷ xs) ys zero z = z 0
+get_or_front (x ∷ xs) ys (suc i) z = get_or_front xs ys i (λ j. z (suc j))
+
+get_or_back : (xs ys : List ℕ) (i : ℕ) → ((j : ℕ) → get_or (xs ++ ys) j 0 ≡ 0) → get_or ys i 0 ≡ 0
+get_or_back [] ys i z = z i
+get_or_back (x ∷ xs) ys i z = get_or_back xs ys i (λ j. z (suc j))
 
 -- the type numbers of a term whose nodes are in range
 types_below : (C : ℕ) (t : Term) (ns : List Node) → AllInRange C (onto t ns) → TypesBelow C t × AllInRange C ns

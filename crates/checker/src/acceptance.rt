@@ -10,9 +10,11 @@ use calculus::node::Node;
 pub struct Acceptance<'a> {
     pub(crate) nodes: &'a [Node],
     pub(crate) type_number: u16,
+    // the type table is the caller's, and longer than its entries
     pub(crate) count: usize,
     pub(crate) profile: u32,
-    // The nodes are a term that has a derivation of this type under this profile, by some type table.
+    // The nodes are a term that has a derivation of this type under this profile, by some type table. (A clause that speaks of the
+    // term names it: this field says only that there is one.)
     ghost rule: { ∥ ((t : Term) × (flat t ≡ nodes.now) × Accepted t type_number profile) ∥₁ },
 }
 

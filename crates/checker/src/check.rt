@@ -11,7 +11,7 @@ use hosts::host::Host;
 use refusals::{Layer, Question, Refusal};
 use types::table::counts_fit;
 
-// Questions 10 to 13. A place has 16 bits, so `as` loses nothing: TryFrom would add an error that never comes.
+// Questions 10 to 13.
 fn admit(nodes: &[Node], types: &[Entry], count: usize, words: usize) -> Result<(), Question>
     ensures first { MatchResult result (λ _. Checkable nodes.now types.now count words) (λ q. Uncheckable nodes.now types.now count words q) }
 {
@@ -42,9 +42,9 @@ fn clear(types: &mut [Entry], from: usize, numbers: &mut [u32])
     numbers.fill(0);
 }
 
-// (What check lends stays apart here too: a struct would be made for this one call.)
 // Questions 20 to 24: the number of the rule's type and the count of entries by then, or the first no. The scratch list is
-// left with zeros, and the type table with blanks past its entries.
+// left with zeros, and the type table with blanks past its entries. (What check is lent stays apart here too: a struct would be
+// made for this one call. A match and no `?`: before either answer the table is cleared, from another entry on.)
 fn judge_rule(
     nodes: &[Node],
     profile: u32,

@@ -37,7 +37,7 @@ impl Frame {
         }
     }
 
-    // The kept type, or 0.
+    // The kept type, or 0: the scratch list holds numbers alone.
     fn kept(self) -> u16
         ensures value { result ≡ kept_of self.awaits }
     {

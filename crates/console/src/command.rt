@@ -130,7 +130,8 @@ fn usage_of(name: &str) -> Option<&'static str> {
     })
 }
 
-// The command of this name with these words, or none where it is not to be used so.
+// The command of this name with these words, or none where it is not to be used so. (None and no error: command_of adds the
+// usage, once for all commands. `?` passes no None on through a Result, hence let-else.)
 fn command_with<'a>(
     heap: Global,
     name: &str,

@@ -18,7 +18,8 @@ pub fn digit_value(b: u8) -> Option<u8>
 }
 
 // The bytes that a text says, or none where it is no text of digits, two a byte.
-// (A for and no chain: each pair of digits may fail in two ways, by a wrong digit or for lack of memory.)
+// (A for and no chain: each pair of digits may fail in two ways, by a wrong digit, which is none, or for lack of memory, which `?`
+// passes on.)
 pub fn bytes_of(heap: Global, text: &str) -> Result<Option<Vec<u8>>, AllocError> {
     let (pairs, rest) = text.as_bytes().as_chunks::<2>();
     if !rest.is_empty() {

@@ -11,7 +11,7 @@ use refusals::Refusal;
 use std::alloc::Global;
 use std::fmt;
 
-// A host of either kind.
+// A host of either kind. (An enum and no dyn value, which could not be handed out.)
 #[derive(Drop)]
 pub enum AnyHost<'a> {
     Listing(Listing<'a>),

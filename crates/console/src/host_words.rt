@@ -27,17 +27,15 @@ impl Worded for Version {
     }
 }
 
-// The version of four numbers, of which line and patch have 8 bits. TryFrom could be written in the versions' own crate alone.
+// The version of four numbers, of which line and patch have 8 bits. (TryFrom could be written in the versions' own crate alone,
+// with an error that would be mapped to this one: no plainer.)
 pub fn version_of(numbers: [u16; 4]) -> Result<Version, WordError> {
     let [published, withdrawn, line, patch] = numbers;
-    let (Ok(line), Ok(patch)) = (u8::try_from(line), u8::try_from(patch)) else {
-        return Err(WordError::Version);
-    };
     Ok(Version {
         published,
         withdrawn,
-        line,
-        patch,
+        line: u8::try_from(line).map_err(|_| WordError::Version)?,
+        patch: u8::try_from(patch).map_err(|_| WordError::Version)?,
     })
 }
 

@@ -32,7 +32,7 @@ pub fn versions_of(heap: Global, text: Text<'_>) -> Result<Vec<Version>, Failure
     Ok(versions)
 }
 
-// The version that a line says, if it says one.
+// The version that a line says, if it says one. (A blank line is none and no fault, so `?` would not do.)
 fn version_in(line: &str) -> Result<Option<Version>, LineFault> {
     let Some(numbers) = numbers_in(line)? else {
         return Ok(None);
@@ -42,7 +42,7 @@ fn version_in(line: &str) -> Result<Option<Version>, LineFault> {
     Ok(Some(version))
 }
 
-// The four numbers of a line, or none where it is blank.
+// The four numbers of a line, or none where it is blank. (Not four_numbers: here the fault's word is told.)
 fn numbers_in(line: &str) -> Result<Option<[u16; 4]>, LineFault> {
     let line = without_comment(line);
     let Some(last) = line.split_whitespace().count().checked_sub(1) else {
@@ -74,7 +74,7 @@ pub fn listing_table(
     let profile = host.profile();
     let count = AnswerWords(host.query(0, 0));
     let mut text = format!(in heap; "profile {profile:08x}\ncount: {count}\n")?;
-    // the host has taken the versions, so they are at most 200
+    // (as: the host has taken the versions, so they are at most 200, and try_from would add an error that never comes)
     for number in 0..versions.len() as u16 {
         add_version(&mut text, &mut host, number)?;
     }

@@ -9,12 +9,10 @@ use rule_file::load::load;
 use rule_file::record::six_at;
 use rule_file::write::write;
 use std::alloc::{AllocError, Global};
+use types::table::{MOST_NODES, MOST_TYPES};
 
-// Tables of these lengths serve every file.
-const MOST_NODES: usize = 4096;
-
-// The given six, 1,024 type records, and as many more as there are nodes.
-const MOST_ENTRIES: usize = 5126;
+// A type table of this length serves every file: the most types, and as many more as there may be nodes.
+const MOST_ENTRIES: usize = MOST_TYPES + MOST_NODES;
 
 // The longest file: six bytes for the head, for each of 1,024 type records and for each of 4,096 nodes.
 const MOST_BYTES: usize = 30_726;

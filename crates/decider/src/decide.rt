@@ -30,7 +30,8 @@ fn decision_of(
     })
 }
 
-// Runs an accepted rule in slices and closes it.
+// Runs an accepted rule in slices and closes it. (What is lent stays apart, here and in run_slices: a struct would be made for one
+// call.)
 fn run_accepted<H: Host>(
     acceptance: &Acceptance,
     front: &mut [Node],
@@ -53,7 +54,8 @@ fn run_accepted<H: Host>(
 
 // Takes a rule file to its decision under a host: load, check, start, run in slices of at most `slice` steps (all at once where
 // that is 0) with so much fuel in all, close. Decided says that the step rules take the file's rule to the value that front then
-// holds, in that many steps under this host; anything else says which call refused, or for which cause the run was left.
+// holds, in that many steps under this host; anything else says which call refused, or for which cause the run was left. (Fuel and
+// slice are two numbers, as the caller has them; below they are one Fuel.)
 pub fn decide<H: Host>(
     file: &[u8],
     memory: Memory,

@@ -10,7 +10,8 @@ pub const LARGEST_NUMBER: u16 = 255;
 // The largest number that a question may be put at.
 pub const LARGEST_ASKED: u16 = 4095;
 
-// What answers the questions of a rule. A question and its number are two parameters, as every host of a caller has them.
+// What answers the questions of a rule. A question and its number are two parameters, as every host of a caller has them. That its
+// meaning is kept is said again by each function that is lent a host: a fact of before and after, which no type can hold.
 pub trait Host {
     // What the host means: a profile, and an answer or none to each question at each number.
     ghost meaning: { Self → Meaning };

@@ -76,7 +76,7 @@ pub fn shape_of(profile: u32, question: u16) -> Option<Shape>
     shape_of_digit(digit_of(profile, question))
 }
 
-// The answer that a and b are in a shape.
+// The answer that a and b are in a shape. (They stay two numbers, as a line has them.)
 pub fn answer_in_shape(shape: Shape, a: u16, b: u16) -> Answer
     ensures value { result ≡ shape_answer shape a b }
 {

@@ -1,6 +1,6 @@
 // What a listing answers of one version, or of a version that it does not have. List, day and number are parameters, and
 // these are no methods of a listing, since they promise this of lists of any length. Each looks the version up itself, as
-// each answers another value without one.
+// each answers another value without one, and by let-else, whose form is fixed.
 ghost use Rattle.std.specs.Prelude.{◌≡◌};
 ghost use Rattle.std.specs.List.{slice_get};
 ghost use Rattle.hosts.specs.Listed.{version_age, version_gone, version_name};

@@ -26,7 +26,8 @@ fn run(rt: &HostRuntime) -> Result<(), Failure> {
     let heap = rt.alloc();
     let args: Vec<String> = env::args(rt)?.skip(1).collect(heap)?;
     let words: Vec<&str> = args.iter().map(|arg| arg.as_str()).collect(heap)?;
-    match request_of(words.as_slice()) {
+    let request = request_of(words.as_slice()).map_err(|no| message(rt, no.command, no.usage))?;
+    match request {
         Request::Example => print!(rt; "{}", example(heap)?)?,
         Request::Show { rule } => show(rt, rule)?,
         Request::Assemble { text, out } => assemble_file(rt, text, out)?,
@@ -34,7 +35,6 @@ fn run(rt: &HostRuntime) -> Result<(), Failure> {
         Request::Script => play(rt, rt.stdin())?,
         Request::Explain { number } => explain(rt, number)?,
         Request::Help => rt.print(HELP)?,
-        Request::Unreadable { command, usage } => return Err(message(rt, command, usage)),
     }
     Ok(())
 }

@@ -1,45 +1,38 @@
 // What the arguments of the program ask for.
 
-// A request is read before anything is done, so it is a value and no closure.
+// What is asked for. It is read before anything is done, so it is a value and no closure.
 #[derive(Clone, Copy)]
 pub enum Request<'a> {
     Example,
-    Show {
-        rule: &'a str,
-    },
-    Assemble {
-        text: &'a str,
-        out: &'a str,
-    },
-    Listing {
-        listing: &'a str,
-        today: &'a str,
-    },
+    Show { rule: &'a str },
+    Assemble { text: &'a str, out: &'a str },
+    Listing { listing: &'a str, today: &'a str },
     Script,
-    Explain {
-        number: &'a str,
-    },
+    Explain { number: &'a str },
     Help,
-    Unreadable {
-        command: &'a str,
-        usage: &'static str,
-    },
+}
+
+// Arguments that ask for nothing: there is no such command, or the others do not fit it.
+#[derive(Clone, Copy)]
+pub struct Unreadable<'a> {
+    pub command: &'a str,
+    pub usage: &'static str,
 }
 
 // The request that the arguments say, the program's name left out.
-pub fn request_of<'a>(args: &[&'a str]) -> Request<'a> {
+pub fn request_of<'a>(args: &[&'a str]) -> Result<Request<'a>, Unreadable<'a>> {
     match args {
-        [] => Request::Example,
-        ["show", rule] => Request::Show { rule },
-        ["assemble", text, out] => Request::Assemble { text, out },
-        ["listing", listing, today] => Request::Listing { listing, today },
-        ["script"] => Request::Script,
-        ["explain", number] => Request::Explain { number },
-        ["help" | "--help" | "-h"] => Request::Help,
-        [command, ..] => Request::Unreadable {
+        [] => Ok(Request::Example),
+        ["show", rule] => Ok(Request::Show { rule }),
+        ["assemble", text, out] => Ok(Request::Assemble { text, out }),
+        ["listing", listing, today] => Ok(Request::Listing { listing, today }),
+        ["script"] => Ok(Request::Script),
+        ["explain", number] => Ok(Request::Explain { number }),
+        ["help" | "--help" | "-h"] => Ok(Request::Help),
+        [command, ..] => Err(Unreadable {
             command,
             usage: usage_of(command),
-        },
+        }),
     }
 }
 

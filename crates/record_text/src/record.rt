@@ -18,7 +18,7 @@ pub struct Record {
     pub second: u16,
 }
 
-// The record's six bytes in a file.
+// The record's six bytes in a file. (Not the function with which write makes them: the tests hold write to this one.)
 impl From<Record> for [u8; 6] {
     ghost from_gives = { λ r bytes. bytes ≡ bytes_of_record r };
 

@@ -22,7 +22,8 @@ pub enum TextError {
     Memory(#[from(alloc)] AllocError),
 }
 
-// Which number of a record is greater by 1 than that of the record before, in a run of records.
+// Which number of a record is greater by 1 than that of the record before, in a run of records. (An enum and no closure: each
+// program has one way.)
 #[derive(Clone, Copy, PartialEq, Eq, Debug)]
 pub enum Rising {
     First,

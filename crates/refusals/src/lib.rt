@@ -109,7 +109,7 @@ pub struct Refusal {
     pub question: Question,
 }
 
-// What a refusal says in numbers. Place and child are 0 where there is none.
+// What a refusal says in numbers. Place and child are 0 where there is none. (Numbers alone, since that is what a report says.)
 #[derive(Clone, Copy, PartialEq, Eq, Debug)]
 pub struct Report {
     pub layer: u8,

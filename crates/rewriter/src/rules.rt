@@ -24,7 +24,8 @@ fn rule_for(eliminator: Kind, value: Kind) -> Option<Rule>
     }
 }
 
-// The number of the numeral that the nodes begin with, or none.
+// The number of the numeral that the nodes begin with, or none. (A for: position was tried, and the check does not reach what it
+// finds through the closure.)
 fn numeral_of(nodes: &[Node]) -> Option<usize>
     ensures value { result ≡ numeral_in nodes.now }
 {

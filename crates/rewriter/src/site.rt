@@ -1,6 +1,7 @@
 // Where a term takes its next step, and by which rule.
 
-// The rules that replace a redex, by the values that its node takes.
+// The rules that replace a redex, by the values that its node takes. (An enum and no closure: it is handed out, and a run uses no
+// heap.)
 #[derive(Clone, Copy)]
 pub enum Rule {
     // an application of a function to an argument

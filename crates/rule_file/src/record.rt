@@ -82,7 +82,8 @@ pub fn head_of(six: &[u8; 6]) -> Head
     }
 }
 
-// The entry that a type record says; its form is blank where the mark is not one of a type.
+// The entry that a type record says; its form is blank where the mark is not one of a type. (A From could be written beside the
+// entry alone, and records are not known there; so with the node, and the head is named as they are.)
 #[tactic(auto, unfolding(crate::specs::Records::form_in))]
 pub fn entry_of(six: &[u8; 6]) -> Entry
     ensures value { result ≡ entry_of six.now }

@@ -117,12 +117,14 @@ impl Player {
 }
 
 // How a run ended.
-pub fn end_of(closing: Result<Decided, Refusal>) -> End {
-    match closing {
-        Ok(decided) => End::Decided(decided.records, decided.steps, decided.type_number),
-        Err(refusal) => {
-            let report = refusal.report();
-            End::No(report.number, report.place)
+impl From<Result<Decided, Refusal>> for End {
+    fn from(closing: Result<Decided, Refusal>) -> End {
+        match closing {
+            Ok(decided) => End::Decided(decided.records, decided.steps, decided.type_number),
+            Err(refusal) => {
+                let report = refusal.report();
+                End::No(report.number, report.place)
+            }
         }
     }
 }
@@ -149,7 +151,7 @@ pub fn play(
         Ok(Some(0))
     };
     let Player { held, tables, .. } = player;
-    let end = end_of(close(held, token, &tables.front));
+    let end = End::from(close(held, token, &tables.front));
     Ok(match wrong? {
         None if end != scenario.end => Some(scenario.calls.len().saturating_add(1)),
         wrong => wrong,

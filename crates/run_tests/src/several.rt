@@ -1,5 +1,4 @@
 // Runs of one rule that must agree: in slices, and side by side with their tokens exchanged; and the front of another length.
-use crate::player::end_of;
 use crate::scenario::End;
 use crate::tables::Tables;
 use calculus::stop::StopCause;
@@ -54,7 +53,7 @@ impl Runs<'_> {
     fn finish(&self, tables: &mut Tables, fuel: u32) -> Option<Finish> {
         let (mut held, token) = start(self.acceptance, &mut tables.front, &mut tables.back);
         let stop = run_out(&mut held, tables, fuel);
-        let end = end_of(close(held, token, &tables.front));
+        let end = End::from(close(held, token, &tables.front));
         stop.map(|(cause, steps)| Finish { cause, steps, end })
     }
 
@@ -81,8 +80,9 @@ impl Runs<'_> {
         let began = run(&mut first, 1, &mut a.front, &mut a.back, &mut host);
         let other = run(&mut second, 1_000, &mut b.front, &mut b.back, &mut host);
         let ended = run(&mut first, 999, &mut a.front, &mut a.back, &mut host);
-        let first_end = end_of(close(first, second_token, &a.front));
-        let second_end = end_of(close(second, first_token, &b.front));
+        let first_end = End::from(close(first, second_token, &a.front));
+        let second_end = End::from(close(second, first_token, &b.front));
+        // (Field by field: the steps of the last call alone differ.)
         Ok(match (began, other, ended) {
             (Ok(_), Ok(other), Ok(ended)) => {
                 ended.cause == other.cause
@@ -101,7 +101,7 @@ impl Runs<'_> {
         let other = Tables::noisy(self.heap, self.length.saturating_add(1), self.length)?;
         let (held, token) = start(self.acceptance, &mut tables.front, &mut tables.back);
         let unseen = look(&held, &other.front).is_err();
-        let end = end_of(close(held, token, &other.front));
+        let end = End::from(close(held, token, &other.front));
         Ok(unseen && end == End::No(30, 0))
     }
 }

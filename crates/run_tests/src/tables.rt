@@ -11,7 +11,7 @@ const NOISE: Node = Node {
     number: 9,
 };
 
-// The nodes of a text.
+// The nodes of a text. (One line: a shared function would say type and way at each call.)
 pub fn nodes_of(heap: Global, text: &str) -> Result<Vec<Node>, TextError> {
     all_of(heap, &records(heap, text, Rising::First)?)
 }

@@ -24,7 +24,8 @@ pub fn is_in_range(node: Node, types: usize) -> bool
     }
 }
 
-// Where the nodes stop being one term: nowhere, or at the first node at fault, or at the end of an unended term.
+// Where the nodes stop being one term: nowhere, or at the first node at fault, or at the end of an unended term. (An Option, as
+// of a search: each caller's own question says what the place is.)
 pub fn first_fault(nodes: &[Node], types: usize) -> Option<usize>
     ensures judged { Judged types nodes.now result }
 {

@@ -54,7 +54,7 @@ pub const GIVEN: [Entry; 6] = [
 // The most nodes of a rule.
 pub const MOST_NODES: usize = 4096;
 
-// The most types of a rule.
+// The most types of a rule, the given six among them.
 pub const MOST_TYPES: usize = 1030;
 
 // Question 10: whether a rule may have so many nodes and so many types, by a type table of the length `types`.
@@ -105,7 +105,8 @@ pub fn add(types: &mut [Entry], count: usize, entry: Entry) -> (u16, usize)
     (count as u16, count + 1)
 }
 
-// Where the entries stop being a type table: nowhere, or at the first entry at fault.
+// Where the entries stop being a type table: nowhere, or at the first entry at fault. (An Option, as of a search: each caller's
+// own question says what the place is.)
 pub fn first_fault(entries: &[Entry]) -> Option<usize>
     ensures judged { TableJudged entries.now result }
 {
