@@ -3,7 +3,7 @@ ghost use Rattle.std.specs.Result.{MatchResult};
 ghost use Rattle.evaluator.specs.OneCall.{CloseRefused, CloseCall};
 ghost use Rattle.evaluator.specs.Evaluating.{Closable};
 
-use crate::held::{Held, Run, Scratch};
+use crate::held::{Held, MOST_DEPTHS, Run};
 use crate::outcome::Decided;
 use crate::questions::{closed_term, held_in};
 use crate::token::CloseToken;
@@ -17,7 +17,7 @@ fn close_question(run: &Run, front: &[Node]) -> Result<Held, Question>
     ensures value { MatchResult result (λ h. Closable run.now front.now h) (λ q. CloseRefused run.now front.now q) }
 {
     let held = held_in(run, front)?;
-    let mut depths = Scratch::new();
+    let mut depths = [0; MOST_DEPTHS];
     let term = closed_term(front, held.count, &mut depths)?;
     match find_redex(term, held.profile) {
         Redex::Value => Ok(held),

@@ -2,12 +2,12 @@
 //
 // Front and back stay two parameters, as the calls have them: of a struct of both, a clause could name what is left in them
 // only by place, as `tables.exit.0.now`, which is no plainer than `front.new`.
-ghost use Rattle.std.specs.Prelude.{◌≡◌, length, take};
+ghost use Rattle.std.specs.Prelude.{◌≡◌, ◌≤◌, length, take};
 ghost use Rattle.rewriter.specs.ClosedTerms.{OneClosed};
 ghost use Rattle.evaluator.specs.Evaluating.{Halted, Evaluated};
 ghost use Rattle.evaluator.specs.OneCall.{FuelLeft};
 
-use crate::held::{Held, Scratch};
+use crate::held::Held;
 use crate::outcome::Ran;
 use crate::tables::{blank_rest, copy_first};
 use calculus::node::Node;
@@ -25,7 +25,7 @@ fn step_on<H: Host>(
     held: Held,
     front: &mut [Node],
     back: &mut [Node],
-    depths: &mut Scratch,
+    depths: &mut [u16],
     host: &mut H,
 ) -> Ran
     requires profile { (H.meaning host.old).profile ≡ held.profile }
@@ -33,6 +33,7 @@ fn step_on<H: Host>(
     requires fuel { FuelLeft fuel held }
     requires front { length front.old ≡ held.length }
     requires back { length back.old ≡ held.length }
+    requires depths { 8193 ≤ length depths.old }
     ensures halted { Halted (H.meaning host.old) fuel held front.old front.new result }
     ensures kept { H.meaning host.new ≡ H.meaning host.old }
 {
@@ -70,7 +71,7 @@ pub(crate) fn evaluate<H: Host>(
     held: Held,
     front: &mut [Node],
     back: &mut [Node],
-    depths: &mut Scratch,
+    depths: &mut [u16],
     host: &mut H,
 ) -> Ran
     requires profile { (H.meaning host.old).profile ≡ held.profile }
@@ -78,6 +79,7 @@ pub(crate) fn evaluate<H: Host>(
     requires fuel { FuelLeft fuel held }
     requires front { length front.old ≡ held.length }
     requires back { length back.old ≡ held.length }
+    requires depths { 8193 ≤ length depths.old }
     ensures evaluated { Evaluated (H.meaning host.old) fuel held front.old result front.new back.new }
     ensures kept { H.meaning host.new ≡ H.meaning host.old }
 {

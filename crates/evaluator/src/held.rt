@@ -4,8 +4,6 @@
 ghost use Rattle.std.specs.Prelude.{◌≡◌, ◌≤◌};
 ghost use Rattle.std.specs.Option.{option_map};
 
-use rewriter::depths::Depths;
-
 // The longest tables.
 pub const LONGEST: usize = 4096;
 
@@ -13,10 +11,7 @@ pub const LONGEST: usize = 4096;
 pub const MOST_STEPS: u32 = 1_000_000;
 
 // How many depths are kept at a time while the longest term is read: two for each node, and one.
-const MOST_DEPTHS: usize = 2 * LONGEST + 1;
-
-// Scratch: the depths of the parts of a term.
-pub(crate) type Scratch = Depths<MOST_DEPTHS>;
+pub(crate) const MOST_DEPTHS: usize = 2 * LONGEST + 1;
 
 #[derive(Clone, Copy)]
 pub(crate) struct Held {

@@ -5,7 +5,7 @@ ghost use Rattle.evaluator.specs.OneCall.{FrontFits};
 ghost use Rattle.refusals.specs.declared.Question.TheVariants as question;
 ghost use Rattle.rewriter.specs.ClosedTerms.{OneClosed, FirstClosedFault};
 
-use crate::held::{Held, Run, Scratch};
+use crate::held::{Held, Run};
 use calculus::node::Node;
 use refusals::Question;
 use rewriter::closed::closed_fault;
@@ -24,10 +24,11 @@ pub(crate) fn held_in(run: &Run, front: &[Node]) -> Result<Held, Question>
 pub(crate) fn closed_term<'a>(
     front: &'a [Node],
     count: usize,
-    depths: &mut Scratch,
+    depths: &mut [u16],
 ) -> Result<&'a [Node], Question>
     requires within { count ≤ length front.now }
     requires short { count ≤ 4096 }
+    requires depths { 8193 ≤ length depths.old }
     ensures term { IfOk result (λ ns. ns.now ≡ take count front.now) }
     ensures closed { OnOk result (OneClosed (take count front.now)) }
     ensures fault { IfErr result (λ q. (k : ℕ) × (q ≡ question.ClosedTerm k) × FirstClosedFault (take count front.now) k) }

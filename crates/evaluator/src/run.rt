@@ -1,10 +1,10 @@
 // Running: the questions of a call, and then its steps.
-ghost use Rattle.std.specs.Prelude.{◌≡◌, MatchResult};
+ghost use Rattle.std.specs.Prelude.{◌≡◌, ◌≤◌, length, MatchResult};
 ghost use Rattle.evaluator.specs.OneCall.{state_of, RunRefused, RunCall};
 ghost use Rattle.evaluator.specs.Evaluating.{Runnable};
 
 use crate::evaluate::evaluate;
-use crate::held::{Held, MOST_STEPS, Run, Scratch};
+use crate::held::{Held, MOST_DEPTHS, MOST_STEPS, Run};
 use crate::outcome::Ran;
 use crate::questions::{closed_term, held_in};
 use calculus::node::Node;
@@ -17,9 +17,10 @@ fn run_question<H: Host>(
     fuel: u32,
     front: &[Node],
     back: &[Node],
-    depths: &mut Scratch,
+    depths: &mut [u16],
     host: &mut H,
 ) -> Result<Held, Question>
+    requires depths { 8193 ≤ length depths.old }
     ensures value { MatchResult result (λ h. Runnable (H.meaning host.old) fuel (state_of run.now front.now back.now) h) (λ q. RunRefused (H.meaning host.old) fuel (state_of run.now front.now back.now) q) }
     ensures kept { H.meaning host.new ≡ H.meaning host.old }
 {
@@ -52,7 +53,7 @@ pub fn run<H: Host>(
     ensures call { RunCall (H.meaning host.old) fuel (state_of run.old front.old back.old) result (state_of run.new front.new back.new) }
     ensures kept { H.meaning host.new ≡ H.meaning host.old }
 {
-    let mut depths = Scratch::new();
+    let mut depths = [0; MOST_DEPTHS];
     let mut held = run_question(run, fuel, front, back, &mut depths, host).map_err(
         |question| Layer::Run.refuse(question),
     )?;

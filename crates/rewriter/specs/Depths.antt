@@ -3,10 +3,13 @@
 --   is_variable        whether a kind is that of variables
 --   Within b ds        no depth in a list is above b
 --   HasRoom n ns       a stack of n depths is large enough for the nodes ns, and 16 bits are for each depth
+--   Pending            the depths of the terms that are still to come, the next one's first, and for how many there is room
+--   pending            those that lent numbers hold, from a place on
 -- Assumes nothing.
-use Rattle.std.specs.Prelude.{ℕ, suc, ◌*◌, ◌<◌, ◌≤◌, Bool, true, false, List, [], ◌∷◌, length}
+use Rattle.std.specs.Prelude.{ℕ, suc, ◌*◌, ◌<◌, ◌≤◌, Bool, true, false, List, [], ◌∷◌, length, drop}
 use Rattle.calculus.specs.declared.kind.Kind.{Kind}
 use Rattle.calculus.specs.declared.node.Node.{Node}
+use Rattle.rewriter.specs.declared.depths.Depths.TheInside.{Inside}
 use Rattle.calculus.specs.declared.kind.Kind.TheVariants.{Blank, Variable, Zero, Successor, Rec, Lambda, Apply, Triv, Pair, Fst, Snd, Abort, Inl, Inr, Case, Query}
 
 abbrev pub child_depths : Kind → ℕ → List ℕ
@@ -52,3 +55,10 @@ Within b (d ∷ ds) = (d ≤ b) × Within b ds
 -- A node takes one depth from the stack and puts at most three on it, and adds at most one binder.
 abbrev pub HasRoom : ℕ → List Node → Type 0
 HasRoom n ns = (2 * length ns < n) × (length ns ≤ 65535)
+
+pub record Pending : Type 0 where
+  pub depths : List ℕ
+  pub room : ℕ
+
+abbrev pub pending : Inside → Pending
+pending d = record { depths = drop d.top d.words.now; room = length d.words.now }

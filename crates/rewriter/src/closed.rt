@@ -1,5 +1,5 @@
 // Whether nodes are one closed term.
-ghost use Rattle.std.specs.Prelude.{◌≡◌};
+ghost use Rattle.std.specs.Prelude.{◌≡◌, length};
 ghost use Rattle.rewriter.specs.Depths.{HasRoom};
 ghost use Rattle.rewriter.specs.ClosedTerms.{fits_under, JudgedClosed};
 
@@ -21,18 +21,19 @@ fn fits_under(node: Node, depth: u16) -> bool
 
 // Where the nodes stop being one closed term: nowhere, or at the first node at fault, or at the end of an unended term.
 // `depths` is scratch.
-pub fn closed_fault<const N: usize>(nodes: &[Node], depths: &mut Depths<N>) -> Option<usize>
-    requires room { HasRoom N nodes.now }
+pub fn closed_fault(nodes: &[Node], depths: &mut [u16]) -> Option<usize>
+    requires room { HasRoom (length depths.old) nodes.now }
     ensures judged { JudgedClosed nodes.now result }
 {
-    depths.restart(0);
+    let mut pending = Depths::new(depths);
+    pending.restart(0);
     for (i, node) in nodes.iter().enumerate() {
-        match depths.pop() {
-            Some(depth) if fits_under(*node, depth) => depths.push_children(node.kind, depth),
+        match pending.pop() {
+            Some(depth) if fits_under(*node, depth) => pending.push_children(node.kind, depth),
             _ => return Some(i),
         }
     }
-    if depths.is_empty() {
+    if pending.is_empty() {
         None
     } else {
         Some(nodes.len())

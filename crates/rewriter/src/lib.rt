@@ -3,7 +3,7 @@
 #![tactic(auto)]
 
 pub mod closed;
-pub mod depths;
+mod depths;
 mod focus;
 pub mod laws;
 mod parts;

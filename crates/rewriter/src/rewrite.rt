@@ -11,7 +11,6 @@ ghost use Rattle.rewriter.specs.Rewrites.{StandsAt, Replaces, Rewritten};
 ghost use Rattle.rewriter.specs.Substituted.{substituted};
 ghost use Rattle.rewriter.specs.Writes.{Wrote};
 
-use crate::depths::Depths;
 use crate::parts::past_term;
 use crate::site::{Rule, Site};
 use crate::substitution::substitute;
@@ -23,14 +22,14 @@ use hosts::reply::put_answer;
 
 // Writes what a recursion over a successor becomes: an application of `step`, with `number` in place of its variable, to
 // the recursion over `number`. That recursion's parts stand in a row in `parts`. (Three parts of the table, lent apart.)
-fn unroll<const N: usize>(
+fn unroll(
     number: &[Node],
     step: &[Node],
     parts: &[Node],
-    depths: &mut Depths<N>,
+    depths: &mut [u16],
     out: &mut [Node],
 ) -> Option<usize>
-    requires room { HasRoom N step.now }
+    requires room { HasRoom (length depths.old) step.now }
     ensures wrote { Wrote out.old 0 (node Apply 0 ∷ (substituted number.now (0 ∷ []) step.now ++ (node Rec 0 ∷ parts.now))) out.new result }
 {
     let apply = Node {
@@ -57,10 +56,10 @@ fn put_reply<H: Host>(question: u16, number: u16, out: &mut [Node], host: &mut H
 
 // Writes what the redex at a site becomes to the front of `out`. What it is lent stays apart: a struct of the table, the
 // stack and the host would be made for this one call, and taken apart here.
-fn replace<H: Host, const N: usize>(
+fn replace<H: Host>(
     front: &[Node],
     site: Site,
-    depths: &mut Depths<N>,
+    depths: &mut [u16],
     out: &mut [Node],
     host: &mut H,
 ) -> Option<usize>
@@ -68,7 +67,7 @@ fn replace<H: Host, const N: usize>(
     requires values { site.at + 2 ≤ site.upto }
     requires rest { site.upto ≤ site.end }
     requires inside { site.end ≤ length front.now }
-    requires room { HasRoom N front.now }
+    requires room { HasRoom (length depths.old) front.now }
     ensures wrote { Replaces (H.meaning host.old) front.now site out.old out.new result }
     ensures kept { H.meaning host.new ≡ H.meaning host.old }
 {
@@ -118,15 +117,15 @@ fn replace<H: Host, const N: usize>(
 // and the nodes after it. Answers its length, or none where it is longer than `back`. The host is asked only for the
 // answer of a query that is the redex. `depths` is scratch. (The table, the stack and the host are the caller's, and lent
 // apart.)
-pub fn rewrite<H: Host, const N: usize>(
+pub fn rewrite<H: Host>(
     front: &[Node],
     site: Site,
-    depths: &mut Depths<N>,
+    depths: &mut [u16],
     back: &mut [Node],
     host: &mut H,
 ) -> Option<usize>
     requires redex { RedexAt (H.meaning host.old).profile front.now site }
-    requires room { HasRoom N front.now }
+    requires room { HasRoom (length depths.old) front.now }
     requires fits { length front.now ≤ length back.old }
     ensures step { (t : Term) → flat t ≡ front.now → Rewritten (H.meaning host.old) t back.old back.new result }
     ensures kept { H.meaning host.new ≡ H.meaning host.old }

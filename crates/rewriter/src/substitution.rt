@@ -1,5 +1,5 @@
 // Substitution: the body of a binder with a closed value in place of the binder's variable.
-ghost use Rattle.std.specs.Prelude.{◌≡◌, [], ◌∷◌};
+ghost use Rattle.std.specs.Prelude.{◌≡◌, [], ◌∷◌, length};
 ghost use Rattle.rewriter.specs.Depths.{HasRoom};
 ghost use Rattle.rewriter.specs.Substituted.{hits, substituted};
 ghost use Rattle.rewriter.specs.Writes.{Wrote};
@@ -18,26 +18,27 @@ fn is_index(node: Node, index: u16) -> bool
 
 // Writes the term that `body` begins with, `value` in place of the variable that is free in it, to the front of `out`. An
 // index is that variable where it equals the number of binders around it. `depths` is scratch.
-pub fn substitute<const N: usize>(
+pub fn substitute(
     body: &[Node],
     value: &[Node],
-    depths: &mut Depths<N>,
+    depths: &mut [u16],
     out: &mut [Node],
 ) -> Option<usize>
-    requires room { HasRoom N body.now }
+    requires room { HasRoom (length depths.old) body.now }
     ensures wrote { Wrote out.old 0 (substituted value.now (0 ∷ []) body.now) out.new result }
 {
-    depths.restart(0);
+    let mut pending = Depths::new(depths);
+    pending.restart(0);
     let mut used = 0;
     for node in body {
-        let Some(depth) = depths.pop() else {
+        let Some(depth) = pending.pop() else {
             break;
         };
         if is_index(*node, depth) {
             used = write(out, used, value)?;
         } else {
             used = write(out, used, &[*node])?;
-            depths.push_children(node.kind, depth);
+            pending.push_children(node.kind, depth);
         }
     }
     Some(used)

@@ -6,16 +6,17 @@ use Rattle.rewriter.proofs.substitution.substitute.Goals as goal
 use Rattle.rewriter.proofs.substitution.substitute.Goals.{then-is_index+in_ok-used, else-is_index+in_ok-used-2}
 
 pub loop-node-preserved : goal.loop-node-preserved
-loop-node-preserved g c =
-    let e = c.in-Some.ensures in
+loop-node-preserved c =
+    let e = c.in-Some.ensures.next in
     let n = c.node-item.result in
     let i = c.loop-node.invariant in
     elim c.if-is_index.branch [
       | then-is_index+in_ok-used w ↦
           let o = w.in_ok-used.ensures.wrote in
           let turn = turn_hit c.args.value.now _ _ _ c.args.body.now _ n e c.loop-node-test.true c.node-item.is _ _ w.if-is_index.ensures.value i.whole in
-          rw (w.depths-is, w.out-is, w.used-is) record {
+          rw (w.pending-is, w.out-is, w.used-is) record {
             room = omega (arith, ap length e);
+            enough = omega (arith, c.in-Some.ensures.room);
             within = within_up _ _ (rw e at i.within).1;
             inside = omega arith;
             whole = wrote_on c.loop-node.out w.write.new.out c.args.value.now _ _ c.loop-node.used w.in_ok-used.used o turn;
@@ -25,8 +26,9 @@ loop-node-preserved g c =
           let o = w.in_ok-used-2.ensures.wrote in
           let out = w.write-else-is_index.new.out in
           let turn = turn_miss c.args.value.now _ _ _ c.args.body.now _ n e c.loop-node-test.true c.node-item.is _ _ w.if-is_index.ensures.value i.whole in
-          rw (w.depths-is, w.out-is, w.used-is, w.push_children.ensures) record {
-            room = omega (arith, length_next n.kind c.in-Some.depth c.pop.new.self, ap length e);
+          rw (w.pending-is, w.out-is, w.used-is, w.push_children.ensures.after) record {
+            room = omega (arith, length_next n.kind c.in-Some.depth c.pop.new.self.depths, ap length e);
+            enough = omega (arith, c.in-Some.ensures.room);
             within = within_next n.kind _ _ _ (rw e at i.within);
             inside = omega arith;
             whole = wrote_on c.loop-node.out out (n ∷ []) _ _ c.loop-node.used w.in_ok-used-2.used o turn;
