@@ -20,7 +20,7 @@ pub(crate) fn held_in(run: &Run, front: &[Node]) -> Result<Held, Question>
         .ok_or(Question::TermHeld)
 }
 
-// Question 33: the term, if front's first `count` records are one.
+// Question 33: the term, if front's first `count` records are one. (The bounds are conditions: Held has them, and is not lent here.)
 pub(crate) fn closed_term<'a>(
     front: &'a [Node],
     count: usize,

@@ -11,7 +11,8 @@ use calculus::node::Node;
 use hosts::host::Host;
 use refusals::{Layer, Question, Refusal};
 
-// Questions 30 to 33.
+// Questions 30 to 33. (That the scratch has room for the depths is said again by each function below run: it is a lent list, and a
+// struct for it would be made for one call.)
 fn run_question<H: Host>(
     run: &Run,
     fuel: u32,
