@@ -58,7 +58,7 @@ impl<'a> Depths<'a> {
         self.words[self.top] = depth;
     }
 
-    // Takes the depth of the next term off the stack.
+    // Takes the depth of the next term off the stack. (No `get`: `search` found no proof of it on a slice behind a field.)
     pub(crate) fn pop(&mut self) -> Option<u16>
         ensures next { MatchOption result ((self.old.depths ≡ []) × (self.new.depths ≡ [])) (λ d. self.old.depths ≡ d ∷ self.new.depths) }
         ensures room { self.new.room ≡ self.old.room }
