@@ -8,6 +8,7 @@
 --   HeadOf           questions 1 to 3 are answered yes, and the head has these counts
 --   SectionsOf       the same, and these are the two sections
 --   room_question    question 4
+--   SectionsFor      questions 1 to 4 are answered yes, and these are the two sections
 --   type_question    questions 6 to 8 of one type record, after the entries before it
 --   type_questions   the same of each type record, in order
 --   node_question    questions 5 to 7 of one node record, where so many terms are still to come
@@ -89,6 +90,11 @@ pub record SectionsOf (file : List ℕ) (types nodes : List (List ℕ)) : Type 0
 abbrev pub room_question : ℕ → ℕ → ℕ → ℕ → Option Question
 room_question types nodes node_room type_room =
     cond (nat_le nodes node_room && nat_le (6 + types + nodes) type_room) None (Some TableRoom)
+
+-- questions 1 to 4 are answered yes, and these are the records of the two sections
+pub record SectionsFor (file : List ℕ) (node_room type_room : ℕ) (types nodes : List (List ℕ)) : Type 0 where
+  pub sections : SectionsOf file types nodes
+  pub room : room_question (type_count file) (node_count file) node_room type_room ≡ None
 
 abbrev pub type_question : ℕ → List Entry → List ℕ → Option Question
 type_question place earlier six =

@@ -1,12 +1,12 @@
 // Loading: from the bytes of a file to a node table and a type table.
-ghost use Rattle.std.specs.Prelude.{◌≡◌, ◌+◌, ◌<◌, ◌≤◌, List, [], ◌∷◌, ◌++◌, map, length, take, MatchResult};
+ghost use Rattle.std.specs.Prelude.{◌≡◌, ℕ, ◌+◌, ◌<◌, ◌≤◌, List, [], ◌∷◌, ◌++◌, map, length, take, MatchResult, OnOk};
 ghost use Rattle.calculus.specs.declared.entry.Entry.{Entry};
 ghost use Rattle.calculus.specs.Forms.{empty};
 ghost use Rattle.calculus.specs.Kinds.{blank};
 ghost use Rattle.calculus.specs.Tables.{given_entries};
 ghost use Rattle.rule_file.specs.Records.{entry_of, node_of};
 ghost use Rattle.rule_file.specs.Accepted.{LoadedRule, RefusedAt, WritesBack};
-ghost use Rattle.rule_file.specs.Loading.{head_fits_lem, head_question, SectionsOf, type_question, type_questions, node_question, node_questions, load_question, reading, RuleOf, filled, LoadCall};
+ghost use Rattle.rule_file.specs.Loading.{head_fits_lem, head_question, SectionsOf, type_question, type_questions, node_question, node_questions, load_question, reading, SectionsFor, RuleOf, filled, LoadCall};
 
 use crate::record::{Record, entry_of, head_of, node_of, record_of, second_number};
 use calculus::entry::Entry;
@@ -29,28 +29,29 @@ const MOST_TYPES: usize = 1024;
 // The most entries of a type table that a file can say: the given six, and one of each type record.
 const MOST_ENTRIES: usize = GIVEN.len() + MOST_TYPES;
 
-// A type table in the making. Its entries stand at the front of a fixed array, since load uses no heap and the caller's table is
-// left alone until every question is answered yes.
+// A type table in the making. Its entries stand at the front of a lent list, since load uses no heap and the caller's table is left
+// alone until every question is answered yes. (Lent, and no field: a table of 6 KiB that is handed on by value is copied and cleared
+// at each hand.)
 #[derive(Drop)]
-struct Table {
-    entries: [Entry; MOST_ENTRIES],
+struct Table<'a> {
+    entries: &'a mut [Entry],
     count: usize,
 }
 
-impl Model for Table {
+impl<'a> Model for Table<'a> {
     ghost Value = { List Entry };
 
-    ghost view = { λ t. take t.count t.entries };
+    ghost view = { λ t. take t.count t.entries.now };
 
-    ghost invariant = { λ t. t.count ≤ 1030 };
+    ghost invariant = { λ t. (t.count ≤ 1030) × (length t.entries.now ≡ 1030) };
 }
 
-impl Table {
+impl<'a> Table<'a> {
     // The given six alone.
-    fn given() -> Self
+    fn given(entries: &'a mut [Entry]) -> Table<'a>
+        requires { length entries.old ≡ MOST_ENTRIES }
         ensures { result ≡ given_entries }
     {
-        let mut entries = [Entry::BLANK; MOST_ENTRIES];
         entries[..GIVEN.len()].copy_from_slice(&GIVEN);
         Table {
             entries,
@@ -70,6 +71,16 @@ impl Table {
     {
         self.entries[self.count] = entry;
         self.count += 1;
+    }
+
+    // Fills a type table with the entries, and with blanks past them.
+    fn lay(&self, types: &mut [Entry])
+        requires { length self.now ≤ length types.old }
+        ensures { types.new ≡ filled self.now empty (length types.old) }
+    {
+        let entries = self.entries();
+        types[..entries.len()].copy_from_slice(entries);
+        types[entries.len()..].fill(Entry::BLANK);
     }
 }
 
@@ -151,17 +162,31 @@ impl<'a> Sections<'a> {
         Ok(Sections { types, nodes })
     }
 
-    // Questions 6 to 8 of each type record, in order: the given six and the entries of the records.
-    fn table(&self) -> Result<Table, Question>
-        ensures { result ≡ reading (type_questions 1 given_entries self.now.types.now) (given_entries ++ map entry_of self.now.types.now) }
+    // Questions 1 to 4, for a node table and a type table with this room.
+    fn read_for(file: &'a [u8], node_room: usize, type_room: usize) -> Result<Self, Question>
+        ensures { MatchResult result (λ s. SectionsFor file.now node_room type_room s.types.now s.nodes.now) (λ q. load_question file.now node_room type_room ≡ Some q) }
     {
-        let mut table = Table::given();
+        let sections = Sections::read(file)?;
+        let nodes = sections.nodes;
+        let count = GIVEN.len() + sections.types.len();
+        if node_room < nodes.len() || type_room < count + nodes.len() {
+            return Err(Question::TableRoom);
+        }
+        Ok(sections)
+    }
+
+    // Questions 6 to 8 of each type record, in order; the table, the given six at first, takes the entries of the records.
+    fn read_table(&self, table: &mut Table) -> Result<(), Question>
+        requires { table.old ≡ given_entries }
+        ensures answer { result ≡ reading (type_questions 1 given_entries self.now.types.now) tt }
+        ensures entries { OnOk result (table.new ≡ given_entries ++ map entry_of self.now.types.now) }
+    {
         for (i, six) in self.types.iter().enumerate() {
             // (as: it is below 65,536, and try_from would add an error that never comes)
             let entry = read_entry((1 + i) as u16, table.entries(), six)?;
             table.push(entry);
         }
-        Ok(table)
+        Ok(())
     }
 
     // Questions 5 to 7 of each node record, in order, and question 9 after the last.
@@ -183,29 +208,14 @@ impl<'a> Sections<'a> {
         let place = (first + self.nodes.len()) as u16;
         Err(Question::TermEnded { place })
     }
-}
 
-// A rule as its file says it: the type table, and the records of the nodes.
-#[derive(Drop)]
-struct ReadRule<'a> {
-    table: Table,
-    nodes: &'a [[u8; 6]],
-}
-
-impl<'a> ReadRule<'a> {
-    // Questions 1 to 9, for a node table and a type table with this room.
-    fn read(file: &'a [u8], node_room: usize, type_room: usize) -> Result<Self, Question>
-        ensures { MatchResult result (λ r. RuleOf file.now node_room type_room r.table r.nodes.now) (λ q. load_question file.now node_room type_room ≡ Some q) }
+    // Questions 5 to 9 of a file with these sections, for which there is room.
+    fn read_rule(&self, table: &mut Table) -> Result<(), Question>
+        requires { table.old ≡ given_entries }
+        ensures { (file : List ℕ) (node_room type_room : ℕ) → SectionsFor file node_room type_room self.now.types.now self.now.nodes.now → MatchResult result (λ _. RuleOf file node_room type_room table.new self.now.nodes.now) (λ q. load_question file node_room type_room ≡ Some q) }
     {
-        let sections = Sections::read(file)?;
-        let nodes = sections.nodes;
-        let count = GIVEN.len() + sections.types.len();
-        if node_room < nodes.len() || type_room < count + nodes.len() {
-            return Err(Question::TableRoom);
-        }
-        let table = sections.table()?;
-        sections.term()?;
-        Ok(ReadRule { table, nodes })
+        self.read_table(table)?;
+        self.term()
     }
 
     // Fills a node table with the nodes, and with blanks past them.
@@ -213,20 +223,12 @@ impl<'a> ReadRule<'a> {
         requires { length self.now.nodes.now ≤ length nodes.old }
         ensures { nodes.new ≡ filled (map node_of self.now.nodes.now) blank (length nodes.old) }
     {
+        let (rule, rest) = nodes.split_at_mut(self.nodes.len());
         // Each place looks up its record: std says nothing of what the nodes are after a zip over iter_mut.
-        for (i, node) in nodes.iter_mut().enumerate() {
+        for (i, node) in rule.iter_mut().enumerate() {
             *node = self.nodes.get(i).map_or(Node::BLANK, node_of);
         }
-    }
-
-    // Fills a type table with the entries, and with blanks past them.
-    fn lay_entries(&self, types: &mut [Entry])
-        requires { length self.now.table ≤ length types.old }
-        ensures { types.new ≡ filled self.now.table empty (length types.old) }
-    {
-        let entries = self.table.entries();
-        types[..entries.len()].copy_from_slice(entries);
-        types[entries.len()..].fill(Entry::BLANK);
+        rest.fill(Node::BLANK);
     }
 }
 
@@ -239,13 +241,15 @@ pub fn load(file: &[u8], nodes: &mut [Node], types: &mut [Entry]) -> Result<Load
     ensures place { RefusedAt file.now result }
     ensures writes_back { WritesBack file.now result nodes.new types.new }
 {
-    let rule = ReadRule::read(file, nodes.len(), types.len()).map_err(|question| Layer::File.refuse(
-        question,
-    ))?;
-    rule.lay_nodes(nodes);
-    rule.lay_entries(types);
+    let refuse = |question| Layer::File.refuse(question);
+    let sections = Sections::read_for(file, nodes.len(), types.len()).map_err(refuse)?;
+    let mut entries = [Entry::BLANK; MOST_ENTRIES];
+    let mut table = Table::given(&mut entries);
+    sections.read_rule(&mut table).map_err(refuse)?;
+    sections.lay_nodes(nodes);
+    table.lay(types);
     Ok(Loaded {
-        nodes: rule.nodes.len(),
-        count: rule.table.entries().len(),
+        nodes: sections.nodes.len(),
+        count: table.entries().len(),
     })
 }

@@ -1,10 +1,10 @@
 use Rattle.std.proofs.Common.{sym, ◌∙◌}
 use Rattle.std.proofs.lemmas.Result.{err_from_is_err_and}
 use Rattle.rule_file.proofs.Questions.{reading_ok, reading_err, err_read, entries_more, type_more, type_here}
-use Rattle.rule_file.proofs.load.Sections.table.Goals as goal
+use Rattle.rule_file.proofs.load.Sections.read_table.Goals as goal
 
-pub returns-in_err-entry : goal.returns-in_err-entry
-returns-in_err-entry c =
+pub returns-in_err-entry-clause-answer : goal.returns-in_err-entry-clause-answer
+returns-in_err-entry-clause-answer c =
     let asked = rw c.entries.ensures at c.read_entry.ensures in
     let p = err_from_is_err_and c.from_residual.result c.from_residual.ensures.1 in
     err_read _ _ _ _ _ p.1 p.2

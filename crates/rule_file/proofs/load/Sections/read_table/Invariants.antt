@@ -2,7 +2,7 @@ use Rattle.std.proofs.Common.{◌≡◌, ◌+◌, ◌++◌, map, take, drop}
 use Rattle.calculus.specs.Tables.{given_entries}
 use Rattle.rule_file.specs.Records.{entry_of}
 use Rattle.rule_file.specs.Loading.{type_questions}
-use Rattle.rule_file.proofs.load.Sections.table.Given as goal
+use Rattle.rule_file.proofs.load.Sections.read_table.Given as goal
 
 abbrev pub invariant-loop-i : goal.invariant-loop-i
 invariant-loop-i l =
