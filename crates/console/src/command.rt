@@ -12,6 +12,7 @@ use hosts::version::Version;
 use std::alloc::{AllocError, AllocFailed, Global};
 use std::error::Error;
 use std::fmt;
+use std::str::SplitWhitespace;
 
 // What a line says. A line is read whole before anything is done, so a command is a value and no closure.
 #[derive(Drop)]
@@ -98,8 +99,8 @@ impl fmt::Display for LineError<'_> {
 
 // The command that a line says, or none where it is blank or a comment.
 pub fn command_of<'a>(heap: Global, line: &'a str) -> Result<Option<Command>, LineError<'a>> {
-    let words: Vec<&'a str> = line.split_whitespace().collect(heap)?;
-    let [name, words @ ..] = words.as_slice() else {
+    let mut words = line.split_whitespace();
+    let Some(name) = words.next() else {
         return Ok(None);
     };
     if name.starts_with('#') {
@@ -131,34 +132,50 @@ fn usage_of(name: &str) -> Option<&'static str> {
 }
 
 // The command of this name with these words, or none where it is not to be used so. (None and no error: command_of adds the
-// usage, once for all commands. `?` passes no None on through a Result, hence let-else.)
+// usage, once for all commands. `?` passes no None on through a Result, hence let-else. The words are no list: a line may have
+// millions of them, and a list of those would take more than the table that they say.)
 fn command_with<'a>(
     heap: Global,
     name: &str,
-    words: &[&'a str],
+    mut words: SplitWhitespace<'a>,
+) -> Result<Option<Command>, LineError<'a>> {
+    let command = match name {
+        "tables" => lengths_of(heap, words)?.map(Command::Tables),
+        "nodes" => Some(Command::Nodes(all_of(heap, words)?)),
+        "types" => Some(Command::Types(all_of(heap, words)?)),
+        "listing" => listing_of(heap, words)?,
+        "sheet" => sheet_of(heap, words)?,
+        _ => command_of_few(heap, name, [words.next(), words.next(), words.next()])?,
+    };
+    Ok(command)
+}
+
+// The same of a command that takes two words at most: its first three, as far as there are so many.
+fn command_of_few<'a>(
+    heap: Global,
+    name: &str,
+    words: [Option<&'a str>; 3],
 ) -> Result<Option<Command>, LineError<'a>> {
     let command = match (name, words) {
-        ("tables", _) => lengths_of(heap, words)?.map(Command::Tables),
-        ("file", []) => Some(Command::File(Vec::new(heap))),
-        ("file", [digits]) => bytes_of(heap, digits)?.map(Command::File),
-        ("load", []) => Some(Command::Load),
-        ("nodes", _) => Some(Command::Nodes(all_of(heap, words)?)),
-        ("types", _) => Some(Command::Types(all_of(heap, words)?)),
-        ("entry", [place, word]) => entry_of(place, word)?,
-        ("count", [number]) => decimal(number).map(Command::Count),
-        ("write", []) => Some(Command::Write),
-        ("dump", [name]) => table_of(name).map(Command::Dump),
-        ("listing", [today, versions @ ..]) => Some(listing_of(heap, today, versions)?),
-        ("sheet", [profile, lines @ ..]) => sheet_of(heap, profile, lines)?,
-        ("profile", []) => Some(Command::Profile),
-        ("ask", [question, number]) => ask_of(question, number),
+        ("file", [None, ..]) => Some(Command::File(Vec::new(heap))),
+        ("file", [Some(digits), None, ..]) => bytes_of(heap, digits)?.map(Command::File),
+        ("load", [None, ..]) => Some(Command::Load),
+        ("entry", [Some(place), Some(word), None]) => entry_of(place, word)?,
+        ("count", [Some(number), None, ..]) => decimal(number).map(Command::Count),
+        ("write", [None, ..]) => Some(Command::Write),
+        ("dump", [Some(name), None, ..]) => table_of(name).map(Command::Dump),
+        ("profile", [None, ..]) => Some(Command::Profile),
+        ("ask", [Some(question), Some(number), None]) => ask_of(question, number),
         _ => None,
     };
     Ok(command)
 }
 
 // What every word says. A chain ended by try_collect was tried: the borrow checker does not cover it over lent words.
-fn all_of<'a, T: Worded + Drop>(heap: Global, words: &[&'a str]) -> Result<Vec<T>, LineError<'a>> {
+fn all_of<'a, T: Worded + Drop>(
+    heap: Global,
+    words: SplitWhitespace<'a>,
+) -> Result<Vec<T>, LineError<'a>> {
     let mut all = Vec::new(heap);
     for word in words {
         all.push(read_word(word)?)?;
@@ -170,7 +187,10 @@ fn read_word<'a, T: Worded>(word: &'a str) -> Result<T, LineError<'a>> {
     T::of_word(word).map_err(|error| LineError::Word { word, error })
 }
 
-fn lengths_of<'a>(heap: Global, words: &[&'a str]) -> Result<Option<Lengths>, LineError<'a>> {
+fn lengths_of<'a>(
+    heap: Global,
+    words: SplitWhitespace<'a>,
+) -> Result<Option<Lengths>, LineError<'a>> {
     let lengths: Vec<Length> = all_of(heap, words)?;
     let [nodes, types, scratch, bytes] = lengths.as_slice() else {
         return Ok(None);
@@ -203,23 +223,24 @@ fn table_of(name: &str) -> Option<Table> {
 
 fn listing_of<'a>(
     heap: Global,
-    word: &'a str,
-    versions: &[&'a str],
-) -> Result<Command, LineError<'a>> {
+    mut words: SplitWhitespace<'a>,
+) -> Result<Option<Command>, LineError<'a>> {
+    let Some(word) = words.next() else {
+        return Ok(None);
+    };
     let today = small_number(word).map_err(|error| LineError::Word { word, error })?;
-    let versions = all_of(heap, versions)?;
-    Ok(Command::Listing { today, versions })
+    let versions = all_of(heap, words)?;
+    Ok(Some(Command::Listing { today, versions }))
 }
 
 fn sheet_of<'a>(
     heap: Global,
-    profile: &str,
-    lines: &[&'a str],
+    mut words: SplitWhitespace<'a>,
 ) -> Result<Option<Command>, LineError<'a>> {
-    let Some(profile) = profile_of(profile) else {
+    let Some(profile) = words.next().and_then(profile_of) else {
         return Ok(None);
     };
-    let lines = all_of(heap, lines)?;
+    let lines = all_of(heap, words)?;
     Ok(Some(Command::Sheet { profile, lines }))
 }
 

@@ -1,5 +1,5 @@
 // The state of a script, and what each command does to it.
-ghost use Rattle.std.specs.Prelude.{◌≡◌, replicate, IfErr, OnErr, OnOk};
+ghost use Rattle.std.specs.Prelude.{◌≡◌, ◌≤◌, replicate, vec_capacity, IfErr, IfOk, OnErr, OnOk, MatchOption};
 ghost use Rattle.calculus.specs.declared.form.Form.TheVariants.{Product};
 ghost use Rattle.calculus.specs.declared.kind.Kind.TheVariants.{Fst};
 ghost use Rattle.calculus.specs.Forms.{entry};
@@ -20,7 +20,7 @@ use calculus::node::Node;
 use refusals::Refusal;
 use rule_file::load::{Loaded, load};
 use rule_file::write::write;
-use std::alloc::Global;
+use std::alloc::{AllocError, Global};
 use std::fmt;
 use types::table::GIVEN;
 
@@ -117,7 +117,8 @@ impl Session {
         }
     }
 
-    // Makes new tables, of these lengths and with their filler in every place.
+    // Makes new tables, of these lengths and with their filler in every place. The memory of a table that has room is used again, and
+    // what more is needed is there before anything is changed.
     fn make_tables(&mut self, lengths: Lengths) -> Result<Answer, LineError<'static>>
         ensures nodes { OnOk result (self.new.nodes.items ≡ replicate lengths.nodes (node Fst 9)) }
         ensures types { OnOk result (self.new.types.items ≡ replicate lengths.types (entry Product 9 9)) }
@@ -126,14 +127,14 @@ impl Session {
         ensures error { IfErr result (λ e. e ≡ Memory) }
         ensures kept { OnErr result (self.new ≡ self.old) }
     {
-        let nodes = vec![in self.heap; NODE_FILLER; lengths.nodes]?;
-        let types = vec![in self.heap; ENTRY_FILLER; lengths.types]?;
-        let scratch = vec![in self.heap; NUMBER_FILLER; lengths.scratch]?;
-        let bytes = vec![in self.heap; BYTE_FILLER; lengths.bytes]?;
-        self.nodes = nodes;
-        self.types = types;
-        self.scratch = scratch;
-        self.bytes = bytes;
+        let nodes = larger(self.heap, &self.nodes, lengths.nodes)?;
+        let types = larger(self.heap, &self.types, lengths.types)?;
+        let scratch = larger(self.heap, &self.scratch, lengths.scratch)?;
+        let bytes = larger(self.heap, &self.bytes, lengths.bytes)?;
+        refill(&mut self.nodes, nodes, NODE_FILLER, lengths.nodes);
+        refill(&mut self.types, types, ENTRY_FILLER, lengths.types);
+        refill(&mut self.scratch, scratch, NUMBER_FILLER, lengths.scratch);
+        refill(&mut self.bytes, bytes, BYTE_FILLER, lengths.bytes);
         self.rule = 0;
         self.count = 0;
         Ok(Answer::Tables(lengths))
@@ -266,4 +267,31 @@ impl Session {
             Table::Bytes => write!(f, "dump{}", Runs(self.bytes.as_slice())),
         }
     }
+}
+
+// Memory for a table of this length, where the table has no room for so many.
+fn larger<T: Copy>(
+    heap: Global,
+    table: &Vec<T>,
+    length: usize,
+) -> Result<Option<Vec<T>>, AllocError>
+    ensures room { IfOk result (λ more. MatchOption more (length ≤ vec_capacity table.now) (λ t. length ≤ vec_capacity t)) }
+{
+    if length <= table.capacity() {
+        return Ok(None);
+    }
+    Ok(Some(Vec::with_capacity(heap, length)?))
+}
+
+// Makes a table anew, of this length and with this in every place, in the larger memory if there is one.
+fn refill<T: Copy>(table: &mut Vec<T>, larger: Option<Vec<T>>, filler: T, length: usize)
+    requires room { MatchOption larger (length ≤ vec_capacity table.old) (λ t. length ≤ vec_capacity t) }
+    ensures { table.new.items ≡ replicate length filler }
+{
+    if let Some(larger) = larger {
+        *table = larger;
+    }
+    table.clear();
+    // It has room, so this is no error.
+    let _ = table.resize(length, filler);
 }
