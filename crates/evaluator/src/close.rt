@@ -21,7 +21,9 @@ fn close_question(run: &Run, front: &[Node]) -> Result<Held, Question>
     let term = closed_term(front, held.count, &mut depths)?;
     match find_redex(term, held.profile) {
         Redex::Value => Ok(held),
-        Redex::Stuck | Redex::Ready(_) => Err(Question::ValueHeld),
+        // Two arms, so that an edit can turn the answer of one alone.
+        Redex::Stuck => Err(Question::ValueHeld),
+        Redex::Ready(_) => Err(Question::ValueHeld),
     }
 }
 

@@ -1,4 +1,4 @@
-use Rattle.std.proofs.Common.{sym, ◌∙◌, subst, inl, inr}
+use Rattle.std.proofs.Common.{sym, ◌∙◌, subst}
 use Rattle.evaluator.specs.OneCall.{CloseRefused, nothing_held, not_closed, not_value}
 use Rattle.evaluator.proofs.Halts.{no_value}
 use Rattle.evaluator.proofs.Results.{at_exit}
@@ -24,5 +24,13 @@ returns-in-Stuck c =
     let (e, is, closed) = c.in_ok-term.ensures.closed in
     record {
       value = not_value c.in_ok-held.ensures.fits (is, closed)
-          (no_value _ _ _ c.find_redex.ensures.found (λ v. elim c.in-Stuck.is [ inl s ↦ (cc) | inr s ↦ (let is = s.1 in cc) ]) e (is ∙ sym c.in_ok-term.ensures.term));
+          (no_value _ _ _ c.find_redex.ensures.found (λ v. let is = c.in-Stuck.is in cc) e (is ∙ sym c.in_ok-term.ensures.term));
+    }
+
+pub returns-in-Ready : goal.returns-in-Ready
+returns-in-Ready c =
+    let (e, is, closed) = c.in_ok-term.ensures.closed in
+    record {
+      value = not_value c.in_ok-held.ensures.fits (is, closed)
+          (no_value _ _ _ c.find_redex.ensures.found (λ v. let is = c.in-Ready.is in cc) e (is ∙ sym c.in_ok-term.ensures.term));
     }
