@@ -1,2 +1,3 @@
 pub mod AnyHost
 pub mod Hexadecimal
+pub mod States

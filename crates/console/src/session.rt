@@ -1,10 +1,11 @@
 // The state of a script, and what each command does to it.
-ghost use Rattle.std.specs.Prelude.{◌≡◌, ◌≤◌, replicate, vec_capacity, IfErr, IfOk, OnErr, OnOk, MatchOption};
+ghost use Rattle.std.specs.Prelude.{◌≡◌, ◌≤◌, replicate, vec_capacity, IfErr, OnErr, OnOk, ◌≢◌};
 ghost use Rattle.calculus.specs.declared.form.Form.TheVariants.{Product};
 ghost use Rattle.calculus.specs.declared.kind.Kind.TheVariants.{Fst};
 ghost use Rattle.calculus.specs.Forms.{entry};
 ghost use Rattle.calculus.specs.Kinds.{node};
 ghost use Rattle.console.specs.declared.command.LineError.TheVariants.{Memory};
+ghost use Rattle.console.specs.States.{SameState};
 
 use crate::command::{Command, Lengths, LineError, Table};
 use crate::hexadecimal::Hex;
@@ -90,9 +91,10 @@ impl Session {
         }
     }
 
-    // Does what a command says. An error leaves the state as it was.
+    // Does what a command says. An error leaves the state as it was; where memory ran out, a table may have more memory than before.
     pub fn perform(&mut self, command: Command) -> Result<Answer, LineError<'static>>
-        ensures kept { OnErr result (self.new ≡ self.old) }
+        ensures kept { IfErr result (λ e. (e ≢ Memory) → self.new ≡ self.old) }
+        ensures same { OnErr result (SameState self.old self.new) }
     {
         match command {
             Command::Tables(lengths) => self.make_tables(lengths),
@@ -117,24 +119,24 @@ impl Session {
         }
     }
 
-    // Makes new tables, of these lengths and with their filler in every place. The memory of a table that has room is used again, and
-    // what more is needed is there before anything is changed.
+    // Makes new tables, of these lengths and with their filler in every place. They stand in the memory of the old ones, and what more
+    // is needed is there before anything that they hold is changed.
     fn make_tables(&mut self, lengths: Lengths) -> Result<Answer, LineError<'static>>
         ensures nodes { OnOk result (self.new.nodes.items ≡ replicate lengths.nodes (node Fst 9)) }
         ensures types { OnOk result (self.new.types.items ≡ replicate lengths.types (entry Product 9 9)) }
         ensures scratch { OnOk result (self.new.scratch.items ≡ replicate lengths.scratch NUMBER_FILLER) }
         ensures bytes { OnOk result (self.new.bytes.items ≡ replicate lengths.bytes BYTE_FILLER) }
         ensures error { IfErr result (λ e. e ≡ Memory) }
-        ensures kept { OnErr result (self.new ≡ self.old) }
+        ensures kept { OnErr result (SameState self.old self.new) }
     {
-        let nodes = larger(self.heap, &self.nodes, lengths.nodes)?;
-        let types = larger(self.heap, &self.types, lengths.types)?;
-        let scratch = larger(self.heap, &self.scratch, lengths.scratch)?;
-        let bytes = larger(self.heap, &self.bytes, lengths.bytes)?;
-        refill(&mut self.nodes, nodes, NODE_FILLER, lengths.nodes);
-        refill(&mut self.types, types, ENTRY_FILLER, lengths.types);
-        refill(&mut self.scratch, scratch, NUMBER_FILLER, lengths.scratch);
-        refill(&mut self.bytes, bytes, BYTE_FILLER, lengths.bytes);
+        make_room(&mut self.nodes, lengths.nodes)?;
+        make_room(&mut self.types, lengths.types)?;
+        make_room(&mut self.scratch, lengths.scratch)?;
+        make_room(&mut self.bytes, lengths.bytes)?;
+        refill(&mut self.nodes, NODE_FILLER, lengths.nodes);
+        refill(&mut self.types, ENTRY_FILLER, lengths.types);
+        refill(&mut self.scratch, NUMBER_FILLER, lengths.scratch);
+        refill(&mut self.bytes, BYTE_FILLER, lengths.bytes);
         self.rule = 0;
         self.count = 0;
         Ok(Answer::Tables(lengths))
@@ -269,28 +271,22 @@ impl Session {
     }
 }
 
-// Memory for a table of this length, where the table has no room for so many.
-fn larger<T: Copy>(
-    heap: Global,
-    table: &Vec<T>,
-    length: usize,
-) -> Result<Option<Vec<T>>, AllocError>
-    ensures room { IfOk result (λ more. MatchOption more (length ≤ vec_capacity table.now) (λ t. length ≤ vec_capacity t)) }
+// Gives a table memory for this length, and leaves what it holds.
+fn make_room<T: Copy>(table: &mut Vec<T>, length: usize) -> Result<(), AllocError>
+    ensures items { table.new.items ≡ table.old.items }
+    ensures room { OnOk result (length ≤ vec_capacity table.new) }
 {
-    if length <= table.capacity() {
-        return Ok(None);
-    }
-    Ok(Some(Vec::with_capacity(heap, length)?))
+    table.reserve(length.saturating_sub(table.len()))?;
+    Ok(())
 }
 
-// Makes a table anew, of this length and with this in every place, in the larger memory if there is one.
-fn refill<T: Copy>(table: &mut Vec<T>, larger: Option<Vec<T>>, filler: T, length: usize)
-    requires room { MatchOption larger (length ≤ vec_capacity table.old) (λ t. length ≤ vec_capacity t) }
+// Makes a table, which has room for it, anew: of this length and with this in every place. (Inlined, so that the filler is a
+// constant in the loop that writes it.)
+#[inline]
+fn refill<T: Copy>(table: &mut Vec<T>, filler: T, length: usize)
+    requires room { length ≤ vec_capacity table.old }
     ensures { table.new.items ≡ replicate length filler }
 {
-    if let Some(larger) = larger {
-        *table = larger;
-    }
     table.clear();
     // It has room, so this is no error.
     let _ = table.resize(length, filler);
